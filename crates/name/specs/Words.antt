@@ -1,0 +1,32 @@
+-- Words in a byte string: standing in it, ending it, beginning or ending one of its components.
+use mathlib.Core.Bool.{Bool, true, false, _&&_, _||_}
+use mathlib.Core.List.{List, [], _∷_}
+use Prim.Native.Nat.{ℕ}
+use lib.Dec.{eqb}
+use Rattle.parse.specs.Prefix.{begins}
+
+-- s is w, byte by byte
+abbrev pub same : List ℕ → List ℕ → Bool
+same [] [] = true
+same [] (b ∷ s) = false
+same (a ∷ w) [] = false
+same (a ∷ w) (b ∷ s) = eqb b a && same w s
+
+-- w stands somewhere in s
+abbrev pub contains : List ℕ → List ℕ → Bool
+contains w [] = begins w []
+contains w (b ∷ s) = begins w (b ∷ s) || contains w s
+
+-- s ends with w
+abbrev pub ends : List ℕ → List ℕ → Bool
+ends w [] = same w []
+ends w (b ∷ s) = same w (b ∷ s) || ends w s
+
+-- a component of s, which lie between slashes (47), begins with w: s does, or w stands behind a slash
+abbrev pub componentBegins : List ℕ → List ℕ → Bool
+componentBegins w s = begins w s || contains (47 ∷ w) s
+
+-- every byte of s passes the test
+abbrev pub all : (ℕ → Bool) → List ℕ → Bool
+all p [] = true
+all p (b ∷ s) = p b && all p s

@@ -1,0 +1,29 @@
+-- Beginning with other bytes, from a place on.
+use mathlib.Core.Path.{_≡_, refl, sym, ap, _∙_}
+use mathlib.Core.Bool.{Bool, true, false, _&&_, and-false}
+use mathlib.Core.List.{List, [], _∷_}
+use Prim.Native.Nat.{ℕ, suc, _+_, _≤_, _<_}
+use native.Mathlib.Numerals.{add-one}
+use native.Mathlib.Omega.{arith}
+use lib.Dec.{eqb}
+use lib.ListN.{length, getD, drop, drop-of-length-le}
+use lib.Seq.{drop-cons}
+use borrow.Author.Tests.{eq-eqb, ne-eqb}
+use Rattle.parse.specs.Prefix.{begins}
+
+-- the longer cannot be the front of the shorter
+pub too-long : (w s : List ℕ) → length s < length w → begins w s ≡ false
+too-long [] s h = absurd (omega arith)
+too-long (a ∷ w) [] h = refl
+too-long (a ∷ w) (b ∷ s) h = rw (too-long w s (omega arith), and-false)
+
+module _ (w s : List ℕ) (i : ℕ) where
+  pub all-passed : length w ≤ i → begins (drop i w) (drop i s) ≡ true
+  all-passed h = rw (drop-of-length-le w h)
+
+  module _ (h : i < length w) (k : i < length s) where
+    pub differs : (getD s i 0 ≡ getD w i 0 → ⊥) → begins (drop i w) (drop i s) ≡ false
+    differs e = rw (drop-cons w i 0 h, drop-cons s i 0 k, ne-eqb (getD s i 0) (getD w i 0) e)
+
+    pub agrees : getD s i 0 ≡ getD w i 0 → begins (drop i w) (drop i s) ≡ begins (drop (i + 1) w) (drop (i + 1) s)
+    agrees e = rw (drop-cons w i 0 h, drop-cons s i 0 k, eq-eqb (getD s i 0) (getD w i 0) e, add-one)

@@ -1,0 +1,42 @@
+-- Runs at a place of a list: at the end, at a byte that fails the test, at one that passes. For any test.
+use mathlib.Core.Path.{_≡_, refl, ap}
+use mathlib.Core.Bool.{Bool, true, false}
+use mathlib.Core.List.{List, [], _∷_}
+use Prim.Native.Nat.{ℕ, suc, _+_, _≤_, _<_}
+use native.Mathlib.Numerals.{add-one}
+use native.Mathlib.Omega.{arith}
+use lib.Dec.{eqb}
+use lib.ListN.{length, getD, drop, drop-of-length-le}
+use lib.Seq.{drop-cons}
+use Rattle.parse.specs.Choice.{if}
+use Rattle.parse.specs.Run.{span}
+use Rattle.parse.specs.Line.{lineLen}
+
+module _ (p : ℕ → Bool) (s : List ℕ) (i : ℕ) where
+  pub span-end : length s ≤ i → span p (drop i s) ≡ 0
+  span-end h = rw (drop-of-length-le s h)
+
+  pub span-stop : i < length s → p (getD s i 0) ≡ false → span p (drop i s) ≡ 0
+  span-stop h e = rw (drop-cons s i 0 h, e)
+
+  pub span-go : i < length s → p (getD s i 0) ≡ true → i + span p (drop i s) ≡ (i + 1) + span p (drop (i + 1) s)
+  span-go h e = rw (drop-cons s i 0 h, e, add-one i) (omega arith)
+
+pub span-le : (p : ℕ → Bool) (s : List ℕ) → span p s ≤ length s
+span-le p [] = omega arith
+span-le p (b ∷ s) = go (p b) (span-le p s)
+  where
+    go : (c : Bool) → span p s ≤ length s → if c (suc (span p s)) 0 ≤ suc (length s)
+    go true h = omega arith
+    go false h = omega arith
+
+-- a line from a place on: the same three ways
+module _ (s : List ℕ) (i : ℕ) where
+  pub line-end : length s ≤ i → lineLen (drop i s) ≡ 0
+  line-end h = rw (drop-of-length-le s h)
+
+  pub line-stop : i < length s → eqb (getD s i 0) 10 ≡ true → lineLen (drop i s) ≡ 1
+  line-stop h e = rw (drop-cons s i 0 h, e)
+
+  pub line-go : i < length s → eqb (getD s i 0) 10 ≡ false → i + lineLen (drop i s) ≡ (i + 1) + lineLen (drop (i + 1) s)
+  line-go h e = rw (drop-cons s i 0 h, e, add-one i) (omega arith)

@@ -1,0 +1,19 @@
+// Whether bytes begin with others.
+ghost use mathlib.Core.Path.{_≡_};
+ghost use Rattle.parse.specs.Prefix.{begins};
+
+pub fn begins_with(s: &[u8], front: &[u8]) -> bool
+    ensures { λ r. ⌜ r ≡ begins (now (front .entry)) (now (s .entry)) ⌝ }
+{
+    if s.len() < front.len() {
+        return false;
+    }
+    let mut i = 0;
+    while i < front.len() {
+        if s[i] != front[i] {
+            return false;
+        }
+        i += 1;
+    }
+    true
+}
