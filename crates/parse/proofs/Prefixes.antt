@@ -1,4 +1,4 @@
--- Beginning with other bytes, from a place on.
+-- Beginning with other bytes, from a place on; being the same bytes.
 use mathlib.Core.Path.{_≡_, refl, sym, ap, _∙_}
 use mathlib.Core.Bool.{Bool, true, false, _&&_, and-false}
 use mathlib.Core.List.{List, [], _∷_}
@@ -9,7 +9,7 @@ use lib.Dec.{eqb}
 use lib.ListN.{length, getD, drop, drop-of-length-le}
 use lib.Seq.{drop-cons}
 use borrow.Author.Tests.{eq-eqb, ne-eqb}
-use Rattle.parse.specs.Prefix.{begins}
+use Rattle.parse.specs.Prefix.{begins, same}
 
 -- the longer cannot be the front of the shorter
 pub too-long : (w s : List ℕ) → length s < length w → begins w s ≡ false
@@ -27,3 +27,16 @@ module _ (w s : List ℕ) (i : ℕ) where
 
     pub agrees : getD s i 0 ≡ getD w i 0 → begins (drop i w) (drop i s) ≡ begins (drop (i + 1) w) (drop (i + 1) s)
     agrees e = rw (drop-cons w i 0 h, drop-cons s i 0 k, eq-eqb (getD s i 0) (getD w i 0) e, add-one)
+
+-- being the same is beginning with it and being as long
+pub same-length : (w s : List ℕ) → length s ≡ length w → same w s ≡ begins w s
+same-length [] [] h = refl
+same-length [] (b ∷ s) h = absurd (omega arith)
+same-length (a ∷ w) [] h = absurd (omega arith)
+same-length (a ∷ w) (b ∷ s) h = rw (same-length w s (omega arith))
+
+pub other-length : (w s : List ℕ) → (length s ≡ length w → ⊥) → same w s ≡ false
+other-length [] [] h = absurd (h refl)
+other-length [] (b ∷ s) h = refl
+other-length (a ∷ w) [] h = refl
+other-length (a ∷ w) (b ∷ s) h = rw (other-length w s (λ e. h (ap suc e)), and-false)

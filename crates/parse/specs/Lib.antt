@@ -4,5 +4,6 @@ pub mod Id
 pub mod Limit
 pub mod Line
 pub mod Order
+pub mod Part
 pub mod Prefix
 pub mod Run

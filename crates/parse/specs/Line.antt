@@ -10,6 +10,7 @@ use Rattle.parse.specs.declared.line.Text.{Text}
 use Rattle.parse.specs.declared.line.Text.the-variants.{Ended, Unended}
 use Rattle.parse.specs.Choice.{if}
 use Rattle.parse.specs.Class.{Classes}
+use Rattle.parse.specs.Part.{then}
 use Rattle.parse.specs.Run.{span}
 
 -- "A line end is LF or CR LF." Its length at the front of s: 1, 2, or 0 where there is none
@@ -24,16 +25,16 @@ newlineAt s at = if (ltb 0 (eol (drop at s))) (At (at + eol (drop at s))) Unread
 abbrev pub textLen : Classes → List ℕ → ℕ
 textLen byte s = span (λ b. not (byte .lineEnd b)) s
 
--- what comes of a part's answer: f of the place behind it, or the other
-abbrev pub then {ℓ} : {A : Type ℓ} → Past → (ℕ → A) → A → A
-then (At p) f other = f p
-then Unread f other = other
-
 -- "a CR without LF after it can't be read, nor can text without a line end"
 unfoldable pub textAt : Classes → List ℕ → ℕ → Text
 textAt byte s at =
     let end = at + textLen byte (drop at s) in
     then (newlineAt s end) (λ next. Ended end next) Unended
+
+-- what comes of such text: f of its end and the place behind its line end, or the other
+abbrev pub ended {ℓ} : {A : Type ℓ} → Text → (ℕ → ℕ → A) → A → A
+ended (Ended end next) f other = f end next
+ended Unended f other = other
 
 -- the bytes through the next LF, "or the rest if none"
 abbrev pub lineLen : List ℕ → ℕ

@@ -1,12 +1,26 @@
 // Parts of the lent bytes, for any two places.
 ghost use mathlib.Core.Path.{_≡_};
 ghost use Prim.Native.Nat.{_-_};
+ghost use Rattle.parse.specs.Part.{byteAt};
 ghost use lib.ListN.{take, drop};
 
 // The place behind a part that was read, or that it can't be read.
 pub enum Past {
     At(usize),
     Unread,
+}
+
+// The place behind a byte, where it stands at a place.
+pub fn past_byte(s: &[u8], at: usize, b: u8) -> Past
+    ensures { λ r. ⌜ r ≡ byteAt b (now (s .entry)) at ⌝ }
+{
+    if s.len() <= at {
+        return Past::Unread;
+    }
+    if s[at] != b {
+        return Past::Unread;
+    }
+    Past::At(at + 1)
 }
 
 // The bytes from one place up to another, as far as there are any.

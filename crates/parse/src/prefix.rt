@@ -1,6 +1,6 @@
-// Whether bytes begin with others.
+// Whether bytes begin with others, or are the same.
 ghost use mathlib.Core.Path.{_≡_};
-ghost use Rattle.parse.specs.Prefix.{begins};
+ghost use Rattle.parse.specs.Prefix.{begins, same};
 
 pub fn begins_with(s: &[u8], front: &[u8]) -> bool
     ensures { λ r. ⌜ r ≡ begins (now (front .entry)) (now (s .entry)) ⌝ }
@@ -16,4 +16,13 @@ pub fn begins_with(s: &[u8], front: &[u8]) -> bool
         i += 1;
     }
     true
+}
+
+pub fn is_same(s: &[u8], other: &[u8]) -> bool
+    ensures { λ r. ⌜ r ≡ same (now (other .entry)) (now (s .entry)) ⌝ }
+{
+    if s.len() != other.len() {
+        return false;
+    }
+    begins_with(s, other)
 }

@@ -1,0 +1,48 @@
+-- A record at the front of the bytes s. n is the number of an id's digits.
+use mathlib.Core.List.{List}
+use Prim.Native.Nat.{ℕ, _-_}
+use lib.ListN.{take, drop}
+use Rattle.parse.specs.Choice.{if}
+use Rattle.parse.specs.Class.{Classes}
+use Rattle.parse.specs.Part.{then, byteAt}
+use Rattle.parse.specs.Id.{idAt}
+use Rattle.parse.specs.Line.{newlineAt, textAt, ended}
+use Rattle.name.specs.Name.{validName}
+use Rattle.decode.specs.declared.reference.Fault.{Fault}
+use Rattle.decode.specs.declared.reference.Fault.the-variants.{Id, Space, LineEnd, Name, Peeled}
+use Rattle.decode.specs.declared.reference.Record.{Record}
+use Rattle.decode.specs.declared.reference.Reading.{Reading}
+use Rattle.decode.specs.declared.reference.Reading.the-variants.{Good, Bad}
+
+-- "Record: id, one space, valid name, line end. If the next byte is `^`, then also id and line end.
+-- Each part that can't be read ends the reading there, and the whole record is bad." A space is 32, `^` is 94
+unfoldable pub recordOf : Classes → ℕ → List ℕ → Reading
+recordOf byte n s =
+    then (idAt byte n s 0)
+    (λ idEnd.
+    then (byteAt 32 s idEnd)
+    (λ from.
+    ended (textAt byte s from)
+    (λ end next.
+    if (validName byte (take (end - from) (drop from s)))
+    (then (byteAt 94 s next)
+    (λ object.
+    then (idAt byte n s object)
+    (λ objectEnd.
+    then (newlineAt s objectEnd)
+    (λ size. Good (record { name = end - from; object = object; size = size }))
+    (Bad Peeled))
+    (Bad Peeled))
+    (Good (record { name = end - from; object = 0; size = next })))
+    (Bad Name))
+    (Bad LineEnd))
+    (Bad Space))
+    (Bad Id)
+
+-- the paper's number for each part that can't be read
+abbrev pub faultNumber : Fault → ℕ
+faultNumber Id = 4
+faultNumber Space = 4
+faultNumber LineEnd = 4
+faultNumber Name = 4
+faultNumber Peeled = 4

@@ -1,0 +1,65 @@
+// One record: id, space, name, line end, and the line with the peeled id if there is one.
+ghost use mathlib.Core.Path.{_≡_};
+ghost use Prim.Native.Nat.{_+_};
+ghost use lib.ListN.{take, drop};
+ghost use Rattle.parse.specs.Class.{classesOf};
+ghost use Rattle.decode.specs.Record.{recordOf};
+use parse::line::Text;
+use parse::part::Past;
+
+// The first part of a record that can't be read.
+pub enum Fault {
+    Id,
+    Space,
+    LineEnd,
+    Name,
+    Peeled,
+}
+
+// A good record, by places counted from its start: the id stands at 0, the name behind the id and one space.
+pub struct Record {
+    // The name's length.
+    pub name: usize,
+    // Where the peeled id stands, or 0 where there is none.
+    pub object: usize,
+    // The bytes that the record takes, line ends included.
+    pub size: usize,
+}
+
+pub enum Reading {
+    Good(Record),
+    Bad(Fault),
+}
+
+// The record at the front of the bytes, with ids of n digits.
+pub fn reference(t: &[u8; 256], s: &[u8], n: usize) -> Reading
+    ensures { λ r. ⌜ r ≡ recordOf (classesOf (now (t .entry))) n (now (s .entry)) ⌝ }
+{
+    let Past::At(id_end) = parse::id::hex_hash(t, s, 0, n) else {
+        return Reading::Bad(Fault::Id);
+    };
+    let Past::At(from) = parse::part::past_byte(s, id_end, b' ') else {
+        return Reading::Bad(Fault::Space);
+    };
+    let Text::Ended { end, next } = parse::line::until_line_end(t, s, from) else {
+        return Reading::Bad(Fault::LineEnd);
+    };
+    if !name::is_valid_by(t, parse::part::between(s, from, end)) {
+        return Reading::Bad(Fault::Name);
+    }
+    let name = end - from;
+    let Past::At(object) = parse::part::past_byte(s, next, b'^') else {
+        return Reading::Good(Record {
+            name,
+            object: 0,
+            size: next,
+        });
+    };
+    let Past::At(object_end) = parse::id::hex_hash(t, s, object, n) else {
+        return Reading::Bad(Fault::Peeled);
+    };
+    let Past::At(size) = parse::line::newline(s, object_end) else {
+        return Reading::Bad(Fault::Peeled);
+    };
+    Reading::Good(Record { name, object, size })
+}
