@@ -1,1 +1,4 @@
+pub mod Header
 pub mod Record
+pub mod Shape
+pub mod Start

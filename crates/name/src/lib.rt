@@ -1,7 +1,13 @@
 // Git's rules for the name of a reference, in one pass over the table of byte classes.
 ghost use mathlib.Core.Path.{_≡_};
+ghost use mathlib.Core.Bool.{not, _&&_};
+ghost use mathlib.Core.List.{[], _∷_};
+ghost use lib.Dec.{leb, eqb};
+ghost use lib.ListN.{length, take};
 ghost use Rattle.parse.specs.Class.{paper, classesOf};
-ghost use Rattle.name.specs.Name.{validName};
+ghost use Rattle.parse.specs.Prefix.{begins};
+ghost use Rattle.name.specs.Words.{ends};
+ghost use Rattle.name.specs.Name.{validName, dot, dotDot, slashSlash, atBrace, dotLock};
 
 // Whether bytes are a valid name.
 pub fn is_valid(s: &[u8]) -> bool
@@ -28,25 +34,21 @@ pub fn is_valid_by(t: &[u8; 256], s: &[u8]) -> bool
         before = b;
         i += 1;
     }
-    if !slash {
-        return false;
-    }
-    if !may_be_last(before) {
-        return false;
-    }
-    !lock_before(s, i)
+    slash & may_be_last(before) & !lock_before(s, s.len())
 }
 
-// Whether a byte may stand in a name right behind another.
-fn may_follow(t: &[u8; 256], before: u8, b: u8) -> bool {
+// Whether a byte may stand in a name right behind another: it is allowed, and the two are none of `/.` `..` `//` `@{`.
+fn may_follow(t: &[u8; 256], before: u8, b: u8) -> bool
+    ensures { λ r. ⌜ r ≡ (not (classesOf (now (t .entry)) .forbidden b)
+        && (not (begins (47 ∷ dot) (before ∷ b ∷ []))
+        && (not (begins dotDot (before ∷ b ∷ []))
+        && (not (begins slashSlash (before ∷ b ∷ [])) && not (begins atBrace (before ∷ b ∷ [])))))) ⌝ }
+{
     if parse::class::is_forbidden(t, b) {
         return false;
     }
     if b == b'.' {
-        if before == b'/' {
-            return false;
-        }
-        return before != b'.';
+        return (before != b'/') & (before != b'.');
     }
     if b == b'/' {
         return before != b'/';
@@ -58,32 +60,26 @@ fn may_follow(t: &[u8; 256], before: u8, b: u8) -> bool {
 }
 
 // Whether a name may end in a byte.
-fn may_be_last(b: u8) -> bool {
-    if b == b'/' {
-        return false;
-    }
-    b != b'.'
+fn may_be_last(b: u8) -> bool
+    ensures { λ r. ⌜ r ≡ (not (eqb b 47) && not (eqb b 46)) ⌝ }
+{
+    (b != b'/') & (b != b'.')
 }
 
 // Whether `.lock` stands right before a place.
-fn lock_before(s: &[u8], at: usize) -> bool {
+fn lock_before(s: &[u8], at: usize) -> bool
+    ensures { λ r. ⌜ r ≡ (leb at (length (now (s .entry))) && ends dotLock (take at (now (s .entry)))) ⌝ }
+{
     if s.len() < at {
         return false;
     }
     if at < 5 {
         return false;
     }
-    if s[at - 5] != b'.' {
-        return false;
-    }
-    if s[at - 4] != b'l' {
-        return false;
-    }
-    if s[at - 3] != b'o' {
-        return false;
-    }
-    if s[at - 2] != b'c' {
-        return false;
-    }
-    s[at - 1] == b'k'
+    let k = at - 5;
+    (s[k] == b'.')
+        & (s[k + 1] == b'l')
+        & (s[k + 2] == b'o')
+        & (s[k + 3] == b'c')
+        & (s[k + 4] == b'k')
 }

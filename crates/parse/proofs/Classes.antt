@@ -103,3 +103,7 @@ table-classes = λ i. record { hex = h i; forbidden = f i; lineEnd = l i }
 
     l : (λ (b : ℕ). eqb (getD classTable b 0 / 4 % 2) 1) ≡ isLineEnd
     l = fun-ext (λ b. ap (λ (x : ℕ). eqb (x / 4 % 2) 1) (entry b) ∙ third (isHex b) (isForbidden b) (isLineEnd b))
+
+-- what is said of a table's classes is said of the paper's, once the table is the one
+pub by-paper {ℓ} : {A : Type ℓ} (f : Classes → A) {t : List ℕ} → t ≡ classTable → f (classesOf t) ≡ f paper
+by-paper f e = ap (λ t. f (classesOf t)) e ∙ ap f table-classes

@@ -8,7 +8,10 @@ use lib.Dec.{eqb}
 use lib.ListN.{getD, drop, length, List·getD-eq-default}
 use lib.Seq.{getD-drop}
 use borrow.Author.Tests.{eq-eqb, ne-eqb}
+use native.Mathlib.Omega.{arith}
+use Rattle.parse.specs.declared.part.Past.{Past}
 use Rattle.parse.specs.declared.part.Past.the-variants.{At, Unread}
+use Rattle.parse.specs.Part.{then}
 use Rattle.parse.specs.Choice.{if}
 use Rattle.parse.specs.declared.line.Text.the-variants.{Ended, Unended}
 use Rattle.parse.specs.Class.{Classes}
@@ -47,3 +50,12 @@ module _ (byte : Classes) (s : List ℕ) (at end : ℕ) (e : end ≡ at + textLe
   pub text-unended : newlineAt s end ≡ Unread → textAt byte s at ≡ Unended
   unfolding textAt
   text-unended h = rw (← e, h)
+
+-- text ends no earlier than it begins
+pub text-order : (byte : Classes) (s : List ℕ) (at : ℕ) {end next : ℕ} → textAt byte s at ≡ Ended end next → at ≤ end
+unfolding textAt
+text-order byte s at {end} {next} h = go (newlineAt s (at + textLen byte (drop at s))) h
+  where
+    go : (p : Past) → then p (λ k. Ended (at + textLen byte (drop at s)) k) Unended ≡ Ended end next → at ≤ end
+    go (At k) e = let z : at + textLen byte (drop at s) ≡ end = cc in omega arith
+    go Unread e = absurd (let z : _≡_ {A = ℕ} 0 1 = cc in omega arith)

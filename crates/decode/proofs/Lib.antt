@@ -1,0 +1,5 @@
+pub mod FirstLine
+pub mod Headers
+pub mod Parts
+pub mod Starts
+pub mod Tokens

@@ -1,0 +1,59 @@
+-- `decode::header::read_header` meets its contract: the table's classes are the paper's.
+use mathlib.Core.Path.{_≡_, sym, _∙_}
+use Rattle.parse.proofs.Classes.{by-paper}
+use Rattle.decode.specs.Header.{headerOf, headerAnswer}
+use borrow.Author.Needs.{needs}
+use Rattle.decode.proofs.header.read_header.Statement.{statement}
+use Rattle.decode.proofs.header.read_header.Tie as tie
+
+over-limit-requires : tie.Need-over-limit-requires
+over-limit-requires c κs = search needs
+
+returns : tie.Need-returns
+unfolding headerAnswer
+returns c = rw (sym (c .before .over-limit .ensures) ∙ c .if1 .taken)
+
+table-requires : tie.Need-table-requires
+table-requires c κs = search needs
+
+open-requires : tie.Need-open-requires
+open-requires c κs = search needs
+
+enum-known-h : tie.Need-enum-known-h
+enum-known-h c = search needs
+
+enum-known-text : tie.Need-enum-known-text
+enum-known-text c = search needs
+
+returns-2 : tie.Need-returns-2
+unfolding headerAnswer
+returns-2 c =
+    let o = c .before .before .before in
+    let t = o .before .before in
+    let f = t .before in
+    let file = f .before .before .before .args .file .now in
+    let e = sym (by-paper (λ byte. headerOf byte file) (t .table .ensures)) ∙ sym (o .open .ensures) ∙ c .before .h .given .1 in
+    rw (sym (f .before .over-limit .ensures) ∙ f .if1 .left, e)
+
+returns-3 : tie.Need-returns-3
+unfolding headerAnswer
+returns-3 c =
+    let o = c .before .before .before in
+    let t = o .before .before in
+    let f = t .before in
+    let file = f .before .before .before .args .file .now in
+    let e = sym (by-paper (λ byte. headerOf byte file) (t .table .ensures)) ∙ sym (o .open .ensures) ∙ c .before .text .given .1 in
+    rw (sym (f .before .over-limit .ensures) ∙ f .if1 .left, e)
+
+pub read-header-spec : {M : Type 1} → statement M
+read-header-spec =
+    tie.close
+    (tie.spec
+    over-limit-requires
+    returns
+    table-requires
+    open-requires
+    enum-known-h
+    enum-known-text
+    returns-2
+    returns-3)

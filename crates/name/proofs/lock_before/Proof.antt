@@ -1,0 +1,70 @@
+use mathlib.Core.Path.{_≡_, refl, sym, ap, _∙_}
+use borrow.Author.Tests.{le-leb, lt-leb}
+use Prim.Native.Nat.{_-_}
+use native.Mathlib.Omega.{arith}
+use lib.ListN.{length}
+use Rattle.name.proofs.Ends.{lock-short, lock-stands}
+use borrow.Author.Needs.{needs}
+use Rattle.name.proofs.lock_before.Statement.{statement}
+use Rattle.name.proofs.lock_before.Tie as tie
+use Rattle.name.proofs.lock_before.Reads as reads
+use Rattle.name.proofs.lock_before.Lts as lts
+
+returns : tie.Need-returns
+returns c = rw (lt-leb (c .before .args .at) (length (c .before .args .s .now)) (c .if1 .taken))
+
+returns-2 : tie.Need-returns-2
+returns-2 c =
+    let a = c .before .before .args in
+    rw (le-leb a.at (length (a .s .now)) (c .before .if1 .left), lock-short (a .s .now) a.at (c .before .if1 .left) (c .if2 .taken))
+
+shared-slice-read-result : tie.Need-shared-slice-read-result
+shared-slice-read-result c = search needs
+
+add-result : tie.Need-add-result
+add-result c = search needs
+
+shared-slice-read-result-2 : tie.Need-shared-slice-read-result-2
+shared-slice-read-result-2 c = search needs
+
+add-result-2 : tie.Need-add-result-2
+add-result-2 c = search needs
+
+shared-slice-read-result-3 : tie.Need-shared-slice-read-result-3
+shared-slice-read-result-3 c = search needs
+
+add-result-3 : tie.Need-add-result-3
+add-result-3 c = search needs
+
+shared-slice-read-result-4 : tie.Need-shared-slice-read-result-4
+shared-slice-read-result-4 c = search needs
+
+add-result-4 : tie.Need-add-result-4
+add-result-4 c = search needs
+
+shared-slice-read-result-5 : tie.Need-shared-slice-read-result-5
+shared-slice-read-result-5 c = search needs
+
+returns-3 : tie.Need-returns-3
+returns-3 c =
+    let tests = c .before .before .before .before .before in
+    let a = tests .before .before .args in
+    let fits = tests .before .if1 .left in
+    rw (le-leb a.at (length (a .s .now)) fits, lock-stands (a .s .now) a.at fits (a.at - 5) (omega arith))
+
+pub lock-before-spec : {M : Type 1} → statement M
+lock-before-spec =
+    tie.close
+    (tie.spec
+    returns
+    returns-2
+    shared-slice-read-result
+    add-result
+    shared-slice-read-result-2
+    add-result-2
+    shared-slice-read-result-3
+    add-result-3
+    shared-slice-read-result-4
+    add-result-4
+    shared-slice-read-result-5
+    returns-3)

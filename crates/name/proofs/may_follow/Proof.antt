@@ -1,0 +1,36 @@
+use mathlib.Core.Path.{_≡_, refl, sym, ap, _∙_}
+use mathlib.Core.Bool.{false, and-true, and-false}
+use borrow.Author.Tests.{eq-eqb, ne-eqb}
+use Rattle.parse.specs.Class.{classesOf}
+use borrow.Author.Needs.{needs}
+use Rattle.name.proofs.may_follow.Statement.{statement}
+use Rattle.name.proofs.may_follow.Tie as tie
+use Rattle.name.proofs.may_follow.Reads as reads
+use Rattle.name.proofs.may_follow.Lts as lts
+use Rattle.parse.proofs.class.is_forbidden.Reads as is-forbidden-reads
+
+is-forbidden-requires : tie.Need-is-forbidden-requires
+is-forbidden-requires c κs = search needs
+
+-- behind the first test
+allowed : (c : tie.Else1) → classesOf (c .before .before .args .t .now) .forbidden (c .before .before .args .b) ≡ false
+allowed c = sym (c .before .is-forbidden .ensures) ∙ c .if1 .left
+
+returns : tie.Need-returns
+returns c = rw (sym (c .before .is-forbidden .ensures) ∙ c .if1 .taken)
+
+returns-2 : tie.Need-returns-2
+returns-2 c = rw (allowed (c .before), c .if2 .taken) (simp (and-true, and-false))
+
+returns-3 : tie.Need-returns-3
+returns-3 c = rw (allowed (c .before .before), c .if3 .taken) (simp (and-true, and-false))
+
+returns-4 : tie.Need-returns-4
+returns-4 c = rw (allowed (c .before .before .before), c .if4 .taken) (simp (and-true, and-false))
+
+returns-5 : tie.Need-returns-5
+returns-5 c = simp (allowed (c .before .before .before), ne-eqb _ _ (c .if4 .left), ne-eqb _ _ (c .before .if3 .left), ne-eqb _ _ (c .before .before .if2 .left), and-false)
+
+pub may-follow-spec : {M : Type 1} → statement M
+may-follow-spec =
+    tie.close (tie.spec is-forbidden-requires returns returns-2 returns-3 returns-4 returns-5)

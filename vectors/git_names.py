@@ -1,0 +1,169 @@
+"""Writes names of references with Git's own answers, `git check-ref-format NAME`: the vectors that crates/git_names replays.
+
+usage: python3 vectors/git_names.py FILE        (the repository's file: crates/git_names/data/names)
+
+vectors/README.md says what the marks mean. The same Git writes the same bytes each time.
+"""
+import itertools
+import subprocess
+import sys
+
+# The library's rule looks for `.lock` only at the end of the whole name; Git and its page look at every component.
+# Set this to False once the library does so too: the names marked ~ are then marked -.
+LOCK_ONLY_AT_THE_END = True
+
+# Stands between the name and its readable form; the program passes over both this and what follows.
+REMARK = "  # "
+
+HEAD = """\
+# Names of references with Git's answer to each, made by vectors/git_names.py with {git}.
+# A line: a mark, a space, the name's bytes in hex, and behind `#` the name in a readable form.
+# + accepted   - refused   ~ refused, and accepted by the library for now   0 holds a NUL: not asked, refused by Git's page
+"""
+
+# The cases of Git's t/t1402-check-ref-format.sh that ask with no option.
+T1402 = [
+    b"", b"/", b"foo/bar/baz", b"refs///heads/foo", b"heads/foo/", b"/heads/foo", b"///heads/foo", b"./foo", b"./foo/bar",
+    b"foo/./bar", b"foo/bar/.", b".refs/foo", b"refs/heads/foo.", b"heads/foo..bar", b"heads/foo?bar", b"foo./bar",
+    b"heads/foo.lock", b"heads///foo.lock", b"foo.lock/bar", b"foo.lock///bar", b"heads/foo@bar", b"heads/v@{ation",
+    b"heads/foo\\bar", b"heads/foo\t", b"heads/foo\x7f", b"heads/fu\xc3\x9f", b"foo", b"foo/bar", b"foo/*", b"*/foo",
+    b"foo/*/bar", b"*", b"/foo",
+]
+
+# What the rules on dots, `@{` and `.lock` look for, and what only nearly is so.
+WORDS = [
+    b".", b"..", b"@", b"@{", b"{", b"@x{", b".lock", b".loc", b".lockx", b"lock", b".Lock", b".lock.", b"..lock", b".lock.lock",
+]
+
+# Where a word can stand: alone, and in the first, a middle and the last component, with and without bytes around it.
+PLACES = [
+    b"%s", b"a%s", b"%s/a", b"a%s/a", b"%sa/a", b"a%sa/a", b"a/%s/a", b"a/a%s/a", b"a/%sa/a", b"a/a%sa/a", b"a/%s", b"a/a%s", b"a/%sa",
+    b"a/a%sa",
+]
+
+# Lock names whose other components keep or break another rule: only `.lock` before the last component makes a ~.
+LOCKS = [
+    b"x.lock/y", b"x.lock/y.lock", b"x.lock/y.lock/z", b"w/x.lock/y.lock/z", b"x.lock//y", b"x.lock/.y", b"x.lock/y.", b"x.lock/y..z",
+    b"x.lock/y@{z", b"x.lock/y z", b"x.lock/y/", b"/x.lock/y", b".x.lock/y", b"x y.lock/z", b"x.lock/lock", b"x.lock/.loc",
+    b"x.lock/y.loc", b"x.loc/k", b"x.l/ock", b"@.lock/y", b"x.lock@/y", b"x.lock\x01/y", b"x.lock\x80/y", b"x.lock/\xff", b"\xff.lock/y",
+    b"refs/heads/sub.lock/webmatrix", b"refs/heads/e3/o118.lock", b"refs/heads.lock/e3", b"refs.lock/heads/e3",
+]
+
+# One component, and names as repositories have them or are asked to.
+COMMON = [
+    b"HEAD", b"FETCH_HEAD", b"ONE_LEVEL", b"lower_case", b"master", b"refs", b"refs/", b"HEAD/", b"refs/stash", b"refs/heads/master",
+    b"refs/tags/v1.0", b"refs/tags/0.17.0", b"refs/tags/0.17.0^{}", b"refs/remotes/origin/HEAD", b"refs/pull/1/head",
+    b"refs/remotes/origin/bim_with_3d@11296", b"refs/master{yesterday", b"refs/master}yesterday", b"refs/master{yesterday}",
+    b"refs/master@{yesterday}", b"refs/heads/-x", b"refs/-/x", b"refs/heads/#1", b"refs/heads/a..b", b"refs/heads/a^",
+    b"refs/heads/a~1", b"refs/heads/a:b", b"refs/heads/*", b"refs/heads/a b", b"refs/heads/a\\b", b"refs/heads/$(x);'y'|\"z\"",
+    b"refs/heads/%00", b"refs/sent/ward4/o118/e3", b"main-worktree/refs/a", b"a/b/c/d/e/f/g/h/i/j/k/l/m/n/o/p",
+]
+
+# Bytes that a reader of text might take off or split at, at the places where it would.
+BLANKS = [b" ", b"\t", b"\n", b"\r", b"\r\n"]
+BLANK_PLACES = [b"%s", b"%sa/b", b"a%s/b", b"a/%s/b", b"a/%sb", b"a/b%s"]
+
+# UTF-8, and bytes that are none: Git looks at bytes, so an overlong slash or dot is neither.
+UTF8 = [
+    b"refs/heads/\xc3\x9f", b"refs/heads/\xe2\x82\xac", b"refs/heads/\xf0\x9f\x98\x80", b"refs/heads/u\xcc\x88",
+    b"refs/heads/\xef\xbb\xbf", b"\xef\xbb\xbfrefs/heads/a", b"refs/heads/\xe3\x80\x82", b"refs\xef\xbc\x8fheads", b"\xc3\x9f",
+    b"\xc3\x9f/\xc3\x9f", b"refs/\x80", b"refs/\xbf\xbf", b"refs/\xc3", b"refs/\xc3/a", b"refs/\xe2\x82", b"refs/\xf0\x9f\x98",
+    b"refs\xc0\xafheads", b"refs/\xc0\xaea", b"a/\xc0\xae\xc0\xae/b", b"refs/\xc0\x80", b"refs/\xed\xa0\x80",
+    b"refs/\xf4\x90\x80\x80", b"refs/\xf8\x88\x80\x80\x80", b"refs/\xfe\xff", b"\xff\xfe/\xff\xff", b"\x80/\x80", b"\xff",
+    b"a\xc2\x85/b", b"a/b\xc2\xa0", b"\xe2\x80\xa8a/b", b"refs/a\x80..b", b"refs/\xff.lock", b"refs/\xff@{", b"refs/\xff/.", b"refs/\xff.",
+]
+
+# No program can be given these as an argument, so Git is not asked; its page forbids control characters.
+NUL = [
+    b"\0", b"refs/a\0b", b"refs/\0a", b"refs/a\0", b"\0/a", b"\0a/b", b"a\0/b", b"a/b\0.lock", b"a/b.lock\0", b"a\0", b"a.lock\0/b",
+    b"refs/\0\0",
+]
+
+
+def long_names():
+    """Names as long as the longest of an edit (4,096 bytes), one shorter and one longer, and one that only its end refuses."""
+    good = [b"refs/" + b"n" * (length - 5) for length in (255, 256, 257, 4095, 4096, 4097)]
+    return good + [b"refs/" + b"n" * (4097 - 10) + b".lock", b"a" * 257, b"a/" * 127 + b"ab", b"a/" * 128]
+
+
+def strings(alphabet, longest):
+    """Every string of one to `longest` letters, the short ones first."""
+    for length in range(1, longest + 1):
+        for letters in itertools.product(alphabet, repeat=length):
+            yield b"".join(letters)
+
+
+def filled(places, words):
+    """Each word at each place."""
+    return [place % word for word in words for place in places]
+
+
+def groups():
+    """The names, by title. A name that an earlier group has is left out of a later one."""
+    letters = [b"a", b"/", b".", b"@", b"{"]
+    each = [bytes([b]) for b in range(1, 256)]
+    yield "Git's own cases, of t1402, with no option", T1402
+    yield "every string of one to four of a / . @ {", strings(letters, 4)
+    yield "every byte inside a name", filled([b"refs/a%sb"], each)
+    yield "every byte as the first of a component", filled([b"refs/%sa"], each)
+    yield "every byte as the last of a name", filled([b"refs/a%s"], each)
+    yield "words of the rules, and near ones, at each place", filled(PLACES, WORDS)
+    yield "lock names", LOCKS
+    yield "one component, and names as repositories have them", COMMON
+    yield "line ends and blanks", filled(BLANK_PLACES, BLANKS)
+    yield "UTF-8, and bytes that are none", UTF8
+    yield "long names", long_names()
+    yield "names with a NUL, which no program's argument can hold", NUL
+
+
+def accepts(name):
+    """Git's answer. Another exit than 0 or 1 is none: a name that begins with `-` would be taken for an option."""
+    code = subprocess.run([b"git", b"check-ref-format", name], stderr=subprocess.DEVNULL).returncode
+    if code not in (0, 1):
+        raise SystemExit("git check-ref-format gave %d for %r" % (code, name))
+    return code == 0
+
+
+def mark(name):
+    if b"\0" in name:
+        return "0"
+    if accepts(name):
+        return "+"
+    # Refused for a lock name before the last component alone: with another letter there, Git accepts it.
+    if LOCK_ONLY_AT_THE_END and b".lock/" in name and accepts(name.replace(b".lock/", b".locx/")):
+        return "~"
+    return "-"
+
+
+def readable(name):
+    """The name in ASCII with no blank; the middle of a long one is left out."""
+    if len(name) > 60:
+        return "%s..%s, %d bytes" % (readable(name[:10]), readable(name[-10:]), len(name))
+    text = "".join(chr(b) if 33 <= b <= 126 and b != 92 else "\\x%02x" % b for b in name)
+    return text or "(empty)"
+
+
+def lines():
+    git = subprocess.run(["git", "version"], capture_output=True, text=True, check=True).stdout.strip()
+    yield HEAD.format(git=git)
+    seen = set()
+    for title, names in groups():
+        yield "# -- %s\n" % title
+        for name in names:
+            if name not in seen:
+                seen.add(name)
+                yield mark(name) + " " + name.hex() + REMARK + readable(name) + "\n"
+
+
+def main():
+    if len(sys.argv) != 2:
+        raise SystemExit("usage: python3 vectors/git_names.py FILE")
+    text = "".join(lines())  # all of it before the file is touched, so that a failure leaves the old one
+    with open(sys.argv[1], "w", encoding="ascii", newline="\n") as out:
+        out.write(text)
+    marks = [line[0] for line in text.splitlines() if line[0] != "#"]
+    print("%d names:" % len(marks), ", ".join("%s %d" % (m, marks.count(m)) for m in "+-~0"))
+
+
+if __name__ == "__main__":
+    main()
