@@ -1,5 +1,7 @@
 pub mod FirstLine
 pub mod Headers
+pub mod Locality
 pub mod Parts
+pub mod Records
 pub mod Starts
 pub mod Tokens

@@ -63,3 +63,19 @@ pub fn reference(t: &[u8; 256], s: &[u8], n: usize) -> Reading
     };
     Reading::Good(Record { name, object, size })
 }
+
+// The name of a record at the front of the bytes, as that part of them: behind n digits and one byte.
+pub fn name_of(s: &[u8], n: usize, found: Record) -> &[u8]
+    ensures { λ r. ⌜ now r ≡ take (found .name) (drop (n + 1) (now (s .entry))) ⌝ }
+{
+    let name = found.name;
+    if s.len() <= n {
+        return &s[0..0];
+    }
+    let from = n + 1;
+    if s.len() - from <= name {
+        return &s[from..];
+    }
+    let to = from + name;
+    &s[from..to]
+}

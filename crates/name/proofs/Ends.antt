@@ -1,16 +1,17 @@
--- Where a word that ends a string stands: its own length before the end. Assumes nothing.
-use mathlib.Core.Path.{_≡_, refl, sym, ap, _∙_}
-use mathlib.Core.Bool.{Bool, true, false, not, _&&_, _||_, and-true, and-false, or-false, and-assoc}
+-- Where a word that ends a string stands: its own length before the end. And so `.lock`, by places. Assumes nothing.
+use mathlib.Core.Path.{_≡_, refl, ap, _∙_}
+use mathlib.Core.Bool.{Bool, true, false, _&&_, and-true, and-false, or-false, and-assoc}
 use mathlib.Core.List.{List, [], _∷_}
-use Prim.Native.Nat.{ℕ, zero, suc, _+_, _-_, _≤_, _<_}
-use native.Mathlib.Numerals.{towards-suc}
+use Prim.Native.Nat.{ℕ, zero, suc, _+_, _≤_, _<_}
 use native.Mathlib.Nat.{add-zero}
+use native.Mathlib.Numerals.{towards-suc}
 use native.Mathlib.Omega.{arith}
 use borrow.Author.Tests.{le-leb}
 use lib.Dec.{leb, eqb}
 use lib.ListN.{length, getD, take, drop}
-use lib.Seq.{take-length, length-take-le, slice-cons, slice-empty}
-use Rattle.name.specs.Words.{same, ends}
+use lib.Seq.{length-take-le, slice-cons, slice-empty, take-length}
+use Rattle.parse.specs.Prefix.{same}
+use Rattle.name.specs.Words.{ends}
 use Rattle.name.specs.Name.{dotLock}
 
 -- only strings of one length are the same
@@ -20,12 +21,12 @@ same-length [] (b ∷ s) d = refl
 same-length (a ∷ w) [] d = refl
 same-length (a ∷ w) (b ∷ s) d = rw (same-length w s (λ e. d (ap suc e)), and-false)
 
--- a word ends no shorter string
-pub ends-short : (w s : List ℕ) → length s < length w → ends w s ≡ false
+-- no word ends a shorter string
+ends-short : (w s : List ℕ) → length s < length w → ends w s ≡ false
 ends-short w [] h = same-length w [] (omega arith)
-ends-short w (b ∷ s) h = rw (same-length w (b ∷ s) (omega arith), ends-short w s (omega arith))
+ends-short w (b ∷ s) h = rw (same-length w (b ∷ s) (omega arith)) (ends-short w s (omega arith))
 
-pub ends-place : (w s : List ℕ) (k : ℕ) → k + length w ≡ length s → ends w s ≡ same w (drop k s)
+ends-place : (w s : List ℕ) (k : ℕ) → k + length w ≡ length s → ends w s ≡ same w (drop k s)
 ends-place w [] zero h = refl
 ends-place w [] (suc k) h = absurd (omega arith)
 ends-place w (b ∷ s) zero h = rw (ends-short w s (omega arith), or-false)
@@ -36,6 +37,7 @@ abbrev stands : List ℕ → List ℕ → ℕ → Bool
 stands [] s k = true
 stands (a ∷ w) s k = eqb (getD s k 0) a && stands w s (suc k)
 
+-- before a place of a string
 module _ (s : List ℕ) (at : ℕ) (fits : at ≤ length s) where
   same-stands : (w : List ℕ) (k : ℕ) → k + length w ≡ at → same w (drop k (take at s)) ≡ stands w s k
   same-stands [] k h = rw (← h, add-zero k, slice-empty k s)

@@ -1,5 +1,5 @@
--- The laws of a valid name: all that the crates above may use of the rules. Assumes nothing.
-use mathlib.Core.Path.{_≡_, refl, sym, ap, _∙_}
+-- The laws of a valid name, which are all that the crates above may use of the rules. Assumes nothing.
+use mathlib.Core.Path.{_≡_, refl}
 use mathlib.Core.Logic.{_↔_}
 use mathlib.Core.Bool.{Bool, true, false, not, _&&_, _||_, and-eq-true-iff, and-false}
 use mathlib.Core.List.{List, [], _∷_}
@@ -9,19 +9,20 @@ use borrow.Author.Tests.{eqb-true, not-true}
 use lib.Dec.{eqb}
 use lib.ListN.{length, getD}
 use Rattle.parse.specs.Class.{Classes, paper, isForbidden, isLineEnd}
-use Rattle.name.specs.Words.{same, contains, all}
+use Rattle.name.specs.Words.{all}
 use Rattle.name.specs.Name.{noComponentBeginsWithDot, noLockAtTheEnd, hasSlash, noDotDot, noForbiddenByte, slashesApart, noDotAtTheEnd, noAtBrace, notTheLoneAt, validName}
 
--- one field a rule
+-- ---- a valid name keeps each rule, and what keeps each rule is a valid name
+
 pub record Rules (byte : Classes) (s : List ℕ) : Type 0 where
-  pub componentDots : noComponentBeginsWithDot s ≡ true
+  pub componentDot : noComponentBeginsWithDot s ≡ true
   pub lock : noLockAtTheEnd s ≡ true
-  pub slashed : hasSlash s ≡ true
-  pub dots : noDotDot s ≡ true
+  pub slash : hasSlash s ≡ true
+  pub dotDot : noDotDot s ≡ true
   pub bytes : noForbiddenByte byte s ≡ true
   pub slashes : slashesApart s ≡ true
   pub lastDot : noDotAtTheEnd s ≡ true
-  pub brace : noAtBrace s ≡ true
+  pub atBrace : noAtBrace s ≡ true
   pub loneAt : notTheLoneAt s ≡ true
 
 and-left : (a b : Bool) → a && b ≡ true → a ≡ true
@@ -30,24 +31,16 @@ and-left a b h = and-eq-true-iff a b .0 h .0
 and-right : (a b : Bool) → a && b ≡ true → b ≡ true
 and-right a b h = and-eq-true-iff a b .0 h .1
 
-broken : (byte : Classes) (s : List ℕ) → validName byte s ≡ true → Rules byte s
+each : (byte : Classes) (s : List ℕ) → validName byte s ≡ true → Rules byte s
 unfolding validName
-broken byte s h = search (and-left, and-right) depth 10
+each byte s h = search (and-left, and-right) depth 8
 
-joined : (byte : Classes) (s : List ℕ) → Rules byte s → validName byte s ≡ true
+whole : (byte : Classes) (s : List ℕ) → Rules byte s → validName byte s ≡ true
 unfolding validName
-joined byte s r = cc
+whole byte s r = cc
 
 pub rules : (byte : Classes) (s : List ℕ) → (validName byte s ≡ true) ↔ Rules byte s
-rules byte s = (broken byte s, joined byte s)
-
-pub not-empty : (byte : Classes) → validName byte [] ≡ false
-unfolding validName noComponentBeginsWithDot noLockAtTheEnd hasSlash
-not-empty byte = refl
-
-pub valid-some : (byte : Classes) (s : List ℕ) → validName byte s ≡ true → 0 < length s
-valid-some byte [] h = absurd (let z : _≡_ {A = ℕ} 0 1 = cc (not-empty byte) in omega arith)
-valid-some byte (b ∷ s) h = omega arith
+rules byte s = (each byte s, whole byte s)
 
 -- rule 9 follows from rule 2
 pub lone-at : (s : List ℕ) → hasSlash s ≡ true → notTheLoneAt s ≡ true
@@ -60,12 +53,25 @@ lone-at (b ∷ []) h = go (eqb b 64) refl
     go true e = rw (eqb-true b 64 e) at h
 lone-at (b ∷ c ∷ s) h = rw and-false
 
+-- ---- there is a byte
+
+pub not-empty : (byte : Classes) → validName byte [] ≡ false
+unfolding validName noComponentBeginsWithDot noLockAtTheEnd hasSlash
+not-empty byte = refl
+
+pub valid-some : (byte : Classes) (s : List ℕ) → validName byte s ≡ true → 0 < length s
+valid-some byte [] h = absurd (let z : _≡_ {A = ℕ} 0 1 = cc (not-empty byte) in omega arith)
+valid-some byte (b ∷ s) h = omega arith
+
+-- ---- every byte is allowed
+
 all-at : (p : ℕ → Bool) (s : List ℕ) (i : ℕ) → all p s ≡ true → i < length s → p (getD s i 0) ≡ true
 all-at p [] i h l = absurd (omega arith)
 all-at p (b ∷ s) zero h l = and-left (p b) (all p s) h
 all-at p (b ∷ s) (suc i) h l = all-at p s i (and-right (p b) (all p s) h) (omega arith)
 
-pub valid-allowed : (byte : Classes) (s : List ℕ) → validName byte s ≡ true → (i : ℕ) → i < length s → byte .forbidden (getD s i 0) ≡ false
+pub valid-allowed : (byte : Classes) (s : List ℕ) → validName byte s ≡ true → (i : ℕ) → i < length s
+    → byte .forbidden (getD s i 0) ≡ false
 unfolding noForbiddenByte
 valid-allowed byte s h i l = not-true _ (all-at (λ b. not (byte .forbidden b)) s i (rules byte s .0 h .bytes) l)
 

@@ -1,5 +1,5 @@
--- The rules of a name as one pass over its bytes: each byte is judged by the one before it. Assumes nothing.
-use mathlib.Core.Path.{_≡_, refl, sym, ap, _∙_}
+-- The rules of a name as one pass over its bytes, in which each byte is judged by the one before it. Assumes nothing.
+use mathlib.Core.Path.{_≡_, refl}
 use mathlib.Core.Bool.{Bool, true, false, not, _&&_, _||_, and-true, and-false, or-false, and-assoc, and-comm, or-assoc}
 use mathlib.Core.List.{List, [], _∷_}
 use Prim.Native.Nat.{ℕ, _+_, _≤_, _<_}
@@ -9,11 +9,11 @@ use lib.ListN.{length, getD, drop, drop-of-length-le}
 use lib.Seq.{drop-cons}
 use Rattle.parse.specs.Class.{Classes}
 use Rattle.parse.specs.Prefix.{begins}
-use Rattle.name.specs.Words.{same, contains, ends, componentBegins, all}
+use Rattle.name.specs.Words.{contains, ends, all}
+use Rattle.name.specs.Name.{dot, dotDot, slash, slashSlash, atBrace, dotLock, noComponentBeginsWithDot, noLockAtTheEnd, hasSlash, noDotDot, noForbiddenByte, slashesApart, noDotAtTheEnd, noAtBrace, notTheLoneAt, validName}
 use Rattle.name.proofs.Laws.{lone-at}
-use Rattle.name.specs.Name.{dot, dotDot, slash, slashSlash, at, atBrace, dotLock, noComponentBeginsWithDot, noLockAtTheEnd, hasSlash, noDotDot, noForbiddenByte, slashesApart, noDotAtTheEnd, noAtBrace, notTheLoneAt, validName}
 
--- b may stand right behind a: it is allowed, and the two are none of `/.` `..` `//` `@{`
+-- b may stand right behind a, as `may_follow` promises: it is allowed, and the two are none of `/.` `..` `//` `@{`
 abbrev pub follows : Classes → ℕ → ℕ → Bool
 follows byte a b =
     not (byte .forbidden b)
@@ -21,14 +21,23 @@ follows byte a b =
     && (not (begins dotDot (a ∷ b ∷ []))
     && (not (begins slashSlash (a ∷ b ∷ [])) && not (begins atBrace (a ∷ b ∷ [])))))
 
--- a name may end in a
-abbrev pub mayEnd : ℕ → Bool
-mayEnd a = not (eqb a 47) && not (eqb a 46)
-
--- from a byte on: `slashed` says whether a slash came before, a is the byte before
+-- the rest s of a name passes behind the byte a, where `slashed` says whether a slash was met before
 abbrev pub pass : Classes → Bool → ℕ → List ℕ → Bool
-pass byte slashed a [] = slashed && mayEnd a
+pass byte slashed a [] = slashed && not (eqb a 47) && not (eqb a 46)
 pass byte slashed a (b ∷ s) = follows byte a b && pass byte (slashed || eqb b 47) b s
+
+-- ---- the pass at a place of the name
+
+module _ (byte : Classes) (slashed : Bool) (a : ℕ) (s : List ℕ) (i : ℕ) where
+  pub pass-at : i < length s
+      → pass byte slashed a (drop i s)
+      ≡ (follows byte a (getD s i 0) && pass byte (slashed || eqb (getD s i 0) 47) (getD s i 0) (drop (i + 1) s))
+  pass-at h = rw (drop-cons s i 0 h, add-one i)
+
+  pub pass-end : length s ≤ i → pass byte slashed a (drop i s) ≡ (slashed && not (eqb a 47) && not (eqb a 46))
+  pass-end h = rw (drop-of-length-le s h)
+
+-- ---- the pass is the rules
 
 not-or : (a b : Bool) → not (a || b) ≡ (not a && not b)
 not-or true b = refl
@@ -39,13 +48,17 @@ and-left-comm true b c = refl
 and-left-comm false true c = refl
 and-left-comm false false c = refl
 
-regroup : (f p q r t h F P Q R T E D : Bool)
-    → ((not f && (not p && (not q && (not r && not t)))) && (h && (F && (not P && (not Q && (not R && (not T && (not E && not D))))))))
-    ≡ (h && ((not f && F) && (not (p || P) && (not (q || Q) && (not (r || R) && (not (t || T) && (not E && not D)))))))
-regroup f p q r t h F P Q R T E D = simp (not-or, and-assoc, and-comm, and-left-comm)
+-- what is asked of the byte at hand (small letters) joins what is asked of the rest (capitals)
+join : (f p q r t h F P Q R T E D : Bool)
+    → ((not f && (not p && (not q && (not r && not t))))
+    && (h && (F && (not P && (not Q && (not R && (not T && (not E && not D))))))))
+    ≡ (h
+    && ((not f && F) && (not (p || P) && (not (q || Q) && (not (r || R) && (not (t || T) && (not E && not D)))))))
+join f p q r t h F P Q R T E D = simp (not-or, and-assoc, and-comm, and-left-comm)
 
--- what the pass says of all bytes at once
-pass-parts : (byte : Classes) (slashed : Bool) (a : ℕ) (s : List ℕ)
+-- Each rule by itself, of the byte before and the rest. All in one induction, since every word here is found or
+-- missed at the byte at hand in the same way.
+apart : (byte : Classes) (slashed : Bool) (a : ℕ) (s : List ℕ)
     → pass byte slashed a s
     ≡ ((slashed || contains slash s)
     && (all (λ b. not (byte .forbidden b)) s
@@ -53,27 +66,19 @@ pass-parts : (byte : Classes) (slashed : Bool) (a : ℕ) (s : List ℕ)
     && (not (contains dotDot (a ∷ s))
     && (not (contains slashSlash (a ∷ s))
     && (not (contains atBrace (a ∷ s)) && (not (ends slash (a ∷ s)) && not (ends dot (a ∷ s)))))))))
-pass-parts byte h a [] = simp (and-true, and-false, or-false)
-pass-parts byte h a (b ∷ s) =
-    rw (pass-parts byte (h || eqb b 47) b s, regroup) (simp (and-true, and-false, or-assoc))
+apart byte slashed a [] = simp (and-true, and-false, or-false, and-assoc)
+apart byte slashed a (b ∷ s) = rw (apart byte (slashed || eqb b 47) b s, join) (simp (and-true, and-false, or-assoc))
 
+-- the rules in Git's order against their order in the pass; the lone `@` (o) is told by the slash (h)
 settle : (d l h q f b e c z w o : Bool) → (h ≡ true → not o ≡ true)
     → (not d && (not l && (h && (not q && (f && (not (b || (e || c)) && (not z && (not w && not o))))))))
     ≡ ((h && (f && (not d && (not q && (not (b || c) && (not w && (not e && not z))))))) && not l)
-settle d l false q f b e c z w o k = simp and-false
-settle d l true q f b e c z w o k = simp (k refl, not-or, and-true, and-assoc, and-comm, and-left-comm)
+settle d l false q f b e c z w o lone = simp and-false
+settle d l true q f b e c z w o lone = simp (lone refl, not-or, and-true, and-assoc, and-comm, and-left-comm)
 
+-- Behind a slash (47) the pass judges a whole name: `contains (47 ∷ w) (47 ∷ s)` computes to
+-- `begins w s || contains (47 ∷ w) s`, so that what a component may not begin with is a pair like the others.
 pub valid-pass : (byte : Classes) (s : List ℕ) → validName byte s ≡ (pass byte false 47 s && not (ends dotLock s))
 unfolding validName noComponentBeginsWithDot noLockAtTheEnd hasSlash noDotDot noForbiddenByte slashesApart noDotAtTheEnd noAtBrace notTheLoneAt
 valid-pass byte [] = refl
-valid-pass byte (b ∷ s) = let k = lone-at (b ∷ s) in rw (settle, pass-parts byte false 47 (b ∷ s))
-
--- a place of the name further on, and its end
-pub pass-at : (byte : Classes) (slashed : Bool) (a : ℕ) (s : List ℕ) (i : ℕ) → i < length s
-    → pass byte slashed a (drop i s)
-    ≡ (follows byte a (getD s i 0) && pass byte (slashed || eqb (getD s i 0) 47) (getD s i 0) (drop (i + 1) s))
-pass-at byte h a s i l = rw (drop-cons s i 0 l, add-one i)
-
-pub pass-end : (byte : Classes) (slashed : Bool) (a : ℕ) (s : List ℕ) (i : ℕ) → length s ≤ i
-    → pass byte slashed a (drop i s) ≡ (slashed && mayEnd a)
-pass-end byte h a s i l = rw (drop-of-length-le s l)
+valid-pass byte (b ∷ s) = let lone = lone-at (b ∷ s) in rw (settle, apart byte false 47 (b ∷ s))

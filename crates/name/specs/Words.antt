@@ -1,16 +1,8 @@
--- Words in a byte string: standing in it, ending it, beginning or ending one of its components.
+-- Words in a byte string: standing in it, ending it, beginning one of its components.
 use mathlib.Core.Bool.{Bool, true, false, _&&_, _||_}
 use mathlib.Core.List.{List, [], _∷_}
 use Prim.Native.Nat.{ℕ}
-use lib.Dec.{eqb}
-use Rattle.parse.specs.Prefix.{begins}
-
--- s is w, byte by byte
-abbrev pub same : List ℕ → List ℕ → Bool
-same [] [] = true
-same [] (b ∷ s) = false
-same (a ∷ w) [] = false
-same (a ∷ w) (b ∷ s) = eqb b a && same w s
+use Rattle.parse.specs.Prefix.{begins, same}
 
 -- w stands somewhere in s
 abbrev pub contains : List ℕ → List ℕ → Bool

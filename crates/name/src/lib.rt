@@ -2,7 +2,7 @@
 ghost use mathlib.Core.Path.{_≡_};
 ghost use mathlib.Core.Bool.{not, _&&_};
 ghost use mathlib.Core.List.{[], _∷_};
-ghost use lib.Dec.{leb, eqb};
+ghost use lib.Dec.{leb};
 ghost use lib.ListN.{length, take};
 ghost use Rattle.parse.specs.Class.{paper, classesOf};
 ghost use Rattle.parse.specs.Prefix.{begins};
@@ -34,7 +34,8 @@ pub fn is_valid_by(t: &[u8; 256], s: &[u8]) -> bool
         before = b;
         i += 1;
     }
-    slash & may_be_last(before) & !lock_before(s, s.len())
+    // What is left to ask: a slash somewhere, and an end that is no slash, no dot and no `.lock`.
+    slash & (before != b'/') & (before != b'.') & !lock_before(s, s.len())
 }
 
 // Whether a byte may stand in a name right behind another: it is allowed, and the two are none of `/.` `..` `//` `@{`.
@@ -59,14 +60,7 @@ fn may_follow(t: &[u8; 256], before: u8, b: u8) -> bool
     true
 }
 
-// Whether a name may end in a byte.
-fn may_be_last(b: u8) -> bool
-    ensures { λ r. ⌜ r ≡ (not (eqb b 47) && not (eqb b 46)) ⌝ }
-{
-    (b != b'/') & (b != b'.')
-}
-
-// Whether `.lock` stands right before a place.
+// Whether `.lock` stands right before a place; before one beyond the end it never does.
 fn lock_before(s: &[u8], at: usize) -> bool
     ensures { λ r. ⌜ r ≡ (leb at (length (now (s .entry))) && ends dotLock (take at (now (s .entry)))) ⌝ }
 {
@@ -76,10 +70,10 @@ fn lock_before(s: &[u8], at: usize) -> bool
     if at < 5 {
         return false;
     }
-    let k = at - 5;
-    (s[k] == b'.')
-        & (s[k + 1] == b'l')
-        & (s[k + 2] == b'o')
-        & (s[k + 3] == b'c')
-        & (s[k + 4] == b'k')
+    let start = at - 5;
+    (s[start] == b'.')
+        & (s[start + 1] == b'l')
+        & (s[start + 2] == b'o')
+        & (s[start + 3] == b'c')
+        & (s[start + 4] == b'k')
 }

@@ -1,14 +1,11 @@
-use mathlib.Core.Path.{_≡_, refl, sym, ap, _∙_}
-use Rattle.name.specs.Name.{validName}
-use Rattle.parse.specs.Class.{classTable, classesOf}
-use Rattle.parse.proofs.Classes.{table-classes}
+-- `name::is_valid` meets its contract: the table that it makes has the paper's classes. Assumes nothing.
+use mathlib.Core.Path.{ap, _∙_}
 use borrow.Author.Needs.{needs}
+use Rattle.parse.specs.Class.{Classes, classesOf}
+use Rattle.parse.proofs.Classes.{table-classes}
+use Rattle.name.specs.Name.{validName}
 use Rattle.name.proofs.is_valid.Statement.{statement}
 use Rattle.name.proofs.is_valid.Tie as tie
-use Rattle.name.proofs.is_valid.Reads as reads
-use Rattle.name.proofs.is_valid.Lts as lts
-use Rattle.name.proofs.is_valid_by.Reads as is-valid-by-reads
-use Rattle.parse.proofs.class.table.Reads as table-reads
 
 table-requires : tie.Need-table-requires
 table-requires c κs = search needs
@@ -17,7 +14,10 @@ is-valid-by-requires : tie.Need-is-valid-by-requires
 is-valid-by-requires c κs = search needs
 
 returns : tie.Need-returns
-returns c = c .is-valid-by .ensures ∙ ap (λ k. validName k (c .before .before .before .before .args .s .now)) (ap classesOf (c .before .before .table .ensures) ∙ table-classes)
+returns c =
+    let made = c .before .before in
+    let s = made .before .before .args .s .now in
+    c .is-valid-by .ensures ∙ ap (λ (byte : Classes). validName byte s) (ap classesOf (made .table .ensures) ∙ table-classes)
 
 pub is-valid-spec : {M : Type 1} → statement M
 is-valid-spec = tie.close (tie.spec table-requires is-valid-by-requires returns)

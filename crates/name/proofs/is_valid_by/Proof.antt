@@ -1,6 +1,8 @@
-use mathlib.Core.Path.{_≡_, refl, sym, ap, _∙_}
+-- `name::is_valid_by` meets its contract. The invariant: the name is valid exactly if its bytes from i on pass, and
+-- `.lock` does not end it. The measure is what is left of the length. Assumes nothing.
+use mathlib.Core.Path.{_≡_}
 use mathlib.Core.Bool.{not, _&&_}
-use Prim.Native.Nat.{_-_, _<_}
+use Prim.Native.Nat.{_-_}
 use borrow.Author.Needs.{needs}
 use borrow.Author.Tests.{not-true, not-false}
 use lib.ListN.{length, drop}
@@ -11,11 +13,6 @@ use Rattle.name.proofs.Ends.{lock-whole}
 use Rattle.name.proofs.OnePass.{pass, valid-pass, pass-at, pass-end}
 use Rattle.name.proofs.is_valid_by.Statement.{statement}
 use Rattle.name.proofs.is_valid_by.Tie as tie
-use Rattle.name.proofs.is_valid_by.Reads as reads
-use Rattle.name.proofs.is_valid_by.Lts as lts
-use Rattle.name.proofs.lock_before.Reads as lock-before-reads
-use Rattle.name.proofs.may_be_last.Reads as may-be-last-reads
-use Rattle.name.proofs.may_follow.Reads as may-follow-reads
 
 abbrev Inv-loop : tie.InvT-loop
 Inv-loop t s before₀ slash₀ i₀ before slash i =
@@ -33,11 +30,13 @@ shared-slice-read-b c = search needs
 may-follow-requires : tie.Need-may-follow-requires Inv-loop μ-loop
 may-follow-requires c κs = search needs
 
+-- a turn: `more` is what `pass-at` asks, found by `rw`; then the byte may follow or not
 returns : tie.Need-returns Inv-loop μ-loop
 returns c =
     let turn = c .before .before .before in
     let more = turn .loop-test .taken in
-    rw (turn .before .loop .inv, pass-at, sym (c .before .may-follow .ensures) ∙ not-true _ (c .if1 .taken))
+    let told = c .before .may-follow in
+    rw (turn .before .loop .inv, pass-at, ← told .ensures, not-true (told .result) (c .if1 .taken))
 
 add-i : tie.Need-add-i Inv-loop μ-loop
 add-i c = search needs
@@ -49,19 +48,17 @@ loop-again : tie.Need-loop-again Inv-loop μ-loop
 loop-again c =
     let turn = c .before .before .before in
     let more = turn .loop-test .taken in
-    turn .before .loop .inv ∙ rw (pass-at, sym (c .before .may-follow .ensures) ∙ not-false _ (c .if1 .left))
-
-may-be-last-requires : tie.Need-may-be-last-requires Inv-loop μ-loop
-may-be-last-requires c κs = search needs
+    let told = c .before .may-follow in
+    rw (pass-at, ← told .ensures, not-false (told .result) (c .if1 .left)) at (turn .before .loop .inv)
 
 lock-before-requires : tie.Need-lock-before-requires Inv-loop μ-loop
 lock-before-requires c κs = search needs
 
+-- the end: `over` is what `pass-end` asks
 returns-2 : tie.Need-returns-2 Inv-loop μ-loop
 returns-2 c =
-    let left = c .before .before in
-    let over = left .loop-test .left in
-    rw (left .before .loop .inv, pass-end, c .before .may-be-last .ensures, c .lock-before .ensures, lock-whole)
+    let over = c .before .loop-test .left in
+    rw (c .before .before .loop .inv, pass-end, c .lock-before .ensures, lock-whole)
 
 pub is-valid-by-spec : {M : Type 1} → statement M
 is-valid-by-spec =
@@ -76,6 +73,5 @@ is-valid-by-spec =
     add-i
     loop-less
     loop-again
-    may-be-last-requires
     lock-before-requires
     returns-2)

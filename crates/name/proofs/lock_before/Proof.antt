@@ -1,14 +1,13 @@
-use mathlib.Core.Path.{_≡_, refl, sym, ap, _∙_}
-use borrow.Author.Tests.{le-leb, lt-leb}
+-- `name::lock_before` meets its contract: where `.lock` ends the bytes before a place, it stands five bytes before that place.
+-- Assumes nothing.
 use Prim.Native.Nat.{_-_}
 use native.Mathlib.Omega.{arith}
+use borrow.Author.Needs.{needs}
+use borrow.Author.Tests.{le-leb, lt-leb}
 use lib.ListN.{length}
 use Rattle.name.proofs.Ends.{lock-short, lock-stands}
-use borrow.Author.Needs.{needs}
 use Rattle.name.proofs.lock_before.Statement.{statement}
 use Rattle.name.proofs.lock_before.Tie as tie
-use Rattle.name.proofs.lock_before.Reads as reads
-use Rattle.name.proofs.lock_before.Lts as lts
 
 returns : tie.Need-returns
 returns c = rw (lt-leb (c .before .args .at) (length (c .before .args .s .now)) (c .if1 .taken))
@@ -16,7 +15,8 @@ returns c = rw (lt-leb (c .before .args .at) (length (c .before .args .s .now)) 
 returns-2 : tie.Need-returns-2
 returns-2 c =
     let a = c .before .before .args in
-    rw (le-leb a.at (length (a .s .now)) (c .before .if1 .left), lock-short (a .s .now) a.at (c .before .if1 .left) (c .if2 .taken))
+    let fits = c .before .if1 .left in
+    rw (le-leb a.at (length (a .s .now)) fits, lock-short (a .s .now) a.at fits (omega arith))
 
 shared-slice-read-result : tie.Need-shared-slice-read-result
 shared-slice-read-result c = search needs

@@ -1,24 +1,23 @@
-use mathlib.Core.Path.{_≡_, refl, sym, ap, _∙_}
+-- `name::may_follow` meets its contract: of each byte, only the pairs that end in it are left to judge. Assumes nothing.
+use mathlib.Core.Path.{_≡_, sym, _∙_}
 use mathlib.Core.Bool.{false, and-true, and-false}
-use borrow.Author.Tests.{eq-eqb, ne-eqb}
-use Rattle.parse.specs.Class.{classesOf}
 use borrow.Author.Needs.{needs}
+use borrow.Author.Tests.{ne-eqb}
+use Rattle.parse.specs.Class.{classesOf}
 use Rattle.name.proofs.may_follow.Statement.{statement}
 use Rattle.name.proofs.may_follow.Tie as tie
-use Rattle.name.proofs.may_follow.Reads as reads
-use Rattle.name.proofs.may_follow.Lts as lts
-use Rattle.parse.proofs.class.is_forbidden.Reads as is-forbidden-reads
 
 is-forbidden-requires : tie.Need-is-forbidden-requires
 is-forbidden-requires c κs = search needs
+
+returns : tie.Need-returns
+returns c = rw (sym (c .before .is-forbidden .ensures) ∙ c .if1 .taken)
 
 -- behind the first test
 allowed : (c : tie.Else1) → classesOf (c .before .before .args .t .now) .forbidden (c .before .before .args .b) ≡ false
 allowed c = sym (c .before .is-forbidden .ensures) ∙ c .if1 .left
 
-returns : tie.Need-returns
-returns c = rw (sym (c .before .is-forbidden .ensures) ∙ c .if1 .taken)
-
+-- the byte is a dot, a slash, a brace
 returns-2 : tie.Need-returns-2
 returns-2 c = rw (allowed (c .before), c .if2 .taken) (simp (and-true, and-false))
 
@@ -28,8 +27,18 @@ returns-3 c = rw (allowed (c .before .before), c .if3 .taken) (simp (and-true, a
 returns-4 : tie.Need-returns-4
 returns-4 c = rw (allowed (c .before .before .before), c .if4 .taken) (simp (and-true, and-false))
 
+-- it is none of them
 returns-5 : tie.Need-returns-5
-returns-5 c = simp (allowed (c .before .before .before), ne-eqb _ _ (c .if4 .left), ne-eqb _ _ (c .before .if3 .left), ne-eqb _ _ (c .before .before .if2 .left), and-false)
+returns-5 c =
+    let brace = c .before in
+    let slash = brace .before in
+    simp (
+      allowed (slash .before),
+      ne-eqb _ _ (slash .if2 .left),
+      ne-eqb _ _ (brace .if3 .left),
+      ne-eqb _ _ (c .if4 .left),
+      and-false,
+    )
 
 pub may-follow-spec : {M : Type 1} → statement M
 may-follow-spec =

@@ -1,0 +1,73 @@
+-- The check of a whole file.
+use mathlib.Core.Bool.{Bool, true, false}
+use mathlib.Core.List.{List, [], _∷_}
+use Prim.Native.Nat.{ℕ, suc, _+_}
+use lib.ListN.{length, drop}
+use Rattle.parse.specs.declared.limit.IdKind.{IdKind}
+use Rattle.parse.specs.declared.limit.IdKind.the-variants.{Digits, Unknown}
+use Rattle.parse.specs.declared.order.Order.{Order}
+use Rattle.parse.specs.declared.order.Order.the-variants.{Less, Equal, Greater}
+use Rattle.parse.specs.Choice.{if}
+use Rattle.parse.specs.Class.{Classes, paper}
+use Rattle.parse.specs.Limit.{digitsOf, overLimit}
+use Rattle.parse.specs.Order.{orderOf}
+use Rattle.decode.specs.declared.header.Opened.{Opened}
+use Rattle.decode.specs.declared.header.Opened.the-variants.{Header, Unreadable}
+use Rattle.decode.specs.declared.reference.Reading.{Reading}
+use Rattle.decode.specs.declared.reference.Reading.the-variants.{Good, Bad}
+use Rattle.decode.specs.Header.{headerOf}
+use Rattle.decode.specs.Record.{faultNumber}
+use Rattle.iter.specs.declared.check.Verdict.{Verdict}
+use Rattle.iter.specs.declared.check.Verdict.the-variants.{Clean, BadHeader, BadRecord, Unsorted}
+use Rattle.iter.specs.declared.check.CheckAnswer.{CheckAnswer}
+use Rattle.iter.specs.declared.check.CheckAnswer.the-variants.{Done, UnknownKind, TooLarge}
+use Rattle.iter.specs.Items.{Item, items, nameOf}
+
+abbrev pub isLess : Order → Bool
+isLess Less = true
+isLess Equal = false
+isLess Greater = false
+
+-- what an item comes to: an error is answered with its place, a record goes by its name
+abbrev pub orElse : Reading → ℕ → Verdict → Verdict
+orElse (Good r) place verdict = verdict
+orElse (Bad f) place verdict = BadRecord place f
+
+-- "iterate; the first item that is an error (4) or whose name isn't greater, byte by byte, than the one before (6) is answered
+-- with its place; else 0 and the record count". The items begin at a place; count records stood before them, the last of them
+-- named last. Before the first there is no name, and every name is greater than none
+abbrev pub judge : ℕ → ℕ → ℕ → List ℕ → List Item → Verdict
+judge n place count last [] = Clean count
+judge n place count last (i ∷ l) =
+    orElse (i .what) place
+    (if (isLess (orderOf last (nameOf n i)))
+    (judge n (place + length (i .bytes)) (suc count) (nameOf n i) l)
+    (Unsorted place))
+
+-- the body of a file, which begins at a place
+unfoldable pub judgeBody : Classes → ℕ → List ℕ → ℕ → Verdict
+judgeBody byte n file body = judge n body 0 [] (items byte n (drop body file))
+
+abbrev pub judgeOpened : Classes → ℕ → List ℕ → Opened → Verdict
+judgeOpened byte n file (Header h) = judgeBody byte n file (h .body)
+judgeOpened byte n file (Unreadable k) = BadHeader k
+
+unfoldable pub checkOf : Classes → ℕ → List ℕ → Verdict
+checkOf byte n file = judgeOpened byte n file (headerOf byte file)
+
+-- with the kind's number first, then the size limit
+abbrev pub checkKind : IdKind → List ℕ → CheckAnswer
+checkKind (Digits n) file = if (overLimit (length file)) TooLarge (Done (checkOf paper n file))
+checkKind Unknown file = UnknownKind
+
+unfoldable pub checkAnswer : ℕ → List ℕ → CheckAnswer
+checkAnswer kind file = checkKind (digitsOf kind) file
+
+-- the paper's number for each case
+abbrev pub checkNumber : CheckAnswer → ℕ
+checkNumber (Done (Clean count)) = 0
+checkNumber (Done (BadHeader k)) = 2
+checkNumber (Done (BadRecord place f)) = faultNumber f
+checkNumber (Done (Unsorted place)) = 6
+checkNumber UnknownKind = 1
+checkNumber TooLarge = 17

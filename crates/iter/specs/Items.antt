@@ -1,0 +1,52 @@
+-- The items of a body: each a good record, or an error that covers a line.
+use mathlib.Core.List.{List, [], _∷_, _++_}
+use Prim.Native.Nat.{ℕ, zero, suc, pred, _+_}
+use lib.ListN.{take, drop}
+use Rattle.parse.specs.Class.{Classes}
+use Rattle.parse.specs.Line.{lineLen}
+use Rattle.decode.specs.declared.reference.Record.{Record}
+use Rattle.decode.specs.declared.reference.Reading.{Reading}
+use Rattle.decode.specs.declared.reference.Reading.the-variants.{Good, Bad}
+use Rattle.decode.specs.Record.{recordOf}
+
+-- what was read, and the bytes that it covers. An item has no place: where it stands does not change it
+pub record Item : Type 0 where
+  pub what : Reading
+  pub bytes : List ℕ
+
+-- a good record covers its bytes; "On a bad one the item is an error covering from its start through the next LF, or the rest if none."
+abbrev pub coveredBy : Reading → ℕ → ℕ
+coveredBy (Good r) line = r .size
+coveredBy (Bad f) line = line
+
+module _ (byte : Classes) (n : ℕ) where
+  -- the size of the item at the front of s
+  unfoldable pub sizeOf : List ℕ → ℕ
+  sizeOf s = coveredBy (recordOf byte n s) (lineLen s)
+
+  abbrev pub itemOf : List ℕ → Item
+  itemOf s = record { what = recordOf byte n s; bytes = take (sizeOf s) s }
+
+  -- the items behind the next k bytes, which belong to an item that was read
+  unfoldable pub itemsBehind : ℕ → List ℕ → List Item
+  itemsBehind k [] = []
+  itemsBehind (suc k) (b ∷ s) = itemsBehind k s
+  itemsBehind zero (b ∷ s) = itemOf (b ∷ s) ∷ itemsBehind (pred (sizeOf (b ∷ s))) s
+
+  -- "Reading goes on after the covered bytes."
+  unfoldable pub items : List ℕ → List Item
+  unfolding itemsBehind
+  items s = itemsBehind 0 s
+
+-- the bytes of some items, one after another
+abbrev pub bytesOf : List Item → List ℕ
+bytesOf [] = []
+bytesOf (i ∷ l) = i .bytes ++ bytesOf l
+
+-- the name of an item with ids of n digits; an error has none
+abbrev pub nameIn : ℕ → Reading → List ℕ → List ℕ
+nameIn n (Good r) s = take (r .name) (drop (n + 1) s)
+nameIn n (Bad f) s = []
+
+abbrev pub nameOf : ℕ → Item → List ℕ
+nameOf n i = nameIn n (i .what) (i .bytes)

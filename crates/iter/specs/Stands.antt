@@ -1,0 +1,48 @@
+-- An item at its place in a body, and what each item is.
+use mathlib.Core.Path.{_≡_}
+use mathlib.Core.List.{List, [], _∷_, _++_}
+use Prim.Native.Nat.{ℕ, _+_, _≤_, _<_}
+use lib.ListN.{length, take, drop}
+use Rattle.parse.specs.Class.{Classes, paper}
+use Rattle.parse.specs.Line.{lineLen}
+use Rattle.decode.specs.declared.reference.Fault.{Fault}
+use Rattle.decode.specs.declared.reference.Reading.the-variants.{Bad}
+use Rattle.decode.specs.Start.{lineStart}
+use Rattle.iter.specs.declared.step.Step.{Step}
+use Rattle.iter.specs.declared.step.Step.the-variants.{End, Good, Error}
+use Rattle.iter.specs.Items.{Item, itemOf, items, bytesOf}
+use Rattle.iter.specs.Step.{stepOf}
+
+-- in the body s the item stands at a place: it is one of the items, and the bytes of those before it reach to the place
+pub record Stands (byte : Classes) (n : ℕ) (s : List ℕ) (place : ℕ) (it : Item) : Type 0 where
+  pub before : List Item
+  pub after : List Item
+  pub all : items byte n s ≡ before ++ it ∷ after
+  pub here : length (bytesOf before) ≡ place
+
+-- the bytes b are the first line of t, or its first two
+pub data Lines (t b : List ℕ) : Type 0 where
+  one : b ≡ take (lineLen t) t → Lines t b
+  two : b ≡ take (lineLen t + lineLen (drop (lineLen t) t)) t → Lines t b
+
+-- every item is what reading at its place gives, goes forward, begins a line and covers whole lines;
+-- "every error covers one line or the rest"
+pub record Each (n : ℕ) (s : List ℕ) (place : ℕ) (it : Item) : Type 0 where
+  pub read : it ≡ itemOf paper n (drop place s)
+  pub forward : 0 < length (it .bytes)
+  pub inside : place + length (it .bytes) ≤ length s
+  pub start : lineStart s place ≡ place
+  pub lines : Lines (drop place s) (it .bytes)
+  pub error : (f : Fault) → it .what ≡ Bad f → it .bytes ≡ take (lineLen (drop place s)) (drop place s)
+
+abbrev pub nextPlace : Step → ℕ
+nextPlace (End next item) = next
+nextPlace (Good r next item) = next
+nextPlace (Error f number text next item) = next
+
+-- stepping from a place on goes through the items of the bytes from there on, one by one, and ends where they end
+pub record Walks (byte : Classes) (n : ℕ) (s : List ℕ) (place item : ℕ) : Type 0 where
+  pub on : place < length s
+      → items byte n (drop place s) ≡ itemOf byte n (drop place s) ∷ items byte n (drop (nextPlace (stepOf byte n [] s place item)) s)
+  pub forward : place < length s → place < nextPlace (stepOf byte n [] s place item)
+  pub ends : length s ≤ place → items byte n (drop place s) ≡ []

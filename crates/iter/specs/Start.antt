@@ -1,0 +1,43 @@
+-- The start of an iteration over a whole file.
+use mathlib.Core.List.{List}
+use Prim.Native.Nat.{ℕ}
+use lib.Dec.{eqb}
+use lib.ListN.{length, getD}
+use Rattle.parse.specs.declared.limit.IdKind.{IdKind}
+use Rattle.parse.specs.declared.limit.IdKind.the-variants.{Digits, Unknown}
+use Rattle.parse.specs.Choice.{if}
+use Rattle.parse.specs.Class.{Classes, paper}
+use Rattle.parse.specs.Limit.{digitsOf, overLimit}
+use Rattle.decode.specs.declared.header.Opened.{Opened}
+use Rattle.decode.specs.declared.header.Opened.the-variants.{Header, Unreadable}
+use Rattle.decode.specs.Header.{headerOf}
+use Rattle.iter.specs.declared.start.Start.{Start}
+use Rattle.iter.specs.declared.start.Start.the-variants.{At, BadHeader}
+use Rattle.iter.specs.declared.start.StartAnswer.{StartAnswer}
+use Rattle.iter.specs.declared.start.StartAnswer.the-variants.{Done, UnknownKind, TooLarge}
+
+-- "Empty bytes: no items, number 1. First byte `#`: header, then number 2. Otherwise number 1."
+unfoldable pub firstItem : List ℕ → ℕ
+firstItem s = if (eqb (getD s 0 0) 35) 2 1
+
+abbrev pub startBy : List ℕ → Opened → Start
+startBy s (Header h) = At (h .body) (firstItem s)
+startBy s (Unreadable k) = BadHeader k
+
+unfoldable pub startOf : Classes → List ℕ → Start
+startOf byte s = startBy s (headerOf byte s)
+
+-- with the kind's number first, then the size limit
+abbrev pub startKind : IdKind → List ℕ → StartAnswer
+startKind (Digits n) s = if (overLimit (length s)) TooLarge (Done (startOf paper s))
+startKind Unknown s = UnknownKind
+
+unfoldable pub startAnswer : ℕ → List ℕ → StartAnswer
+startAnswer kind s = startKind (digitsOf kind) s
+
+-- the paper's number for each case
+abbrev pub startNumber : StartAnswer → ℕ
+startNumber (Done (At place item)) = 0
+startNumber (Done (BadHeader k)) = 2
+startNumber UnknownKind = 1
+startNumber TooLarge = 17

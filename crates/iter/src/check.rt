@@ -1,0 +1,82 @@
+// The check of a whole file: every item a record, every name greater than the one before.
+ghost use mathlib.Core.Path.{_≡_};
+ghost use Rattle.parse.specs.Class.{classesOf};
+ghost use Rattle.iter.specs.Check.{checkOf, checkAnswer, judgeBody};
+use decode::header::Opened;
+use decode::reference::Fault;
+use decode::reference::Reading;
+use parse::limit::IdKind;
+use parse::order::Order;
+
+pub enum Verdict {
+    // The file passes; so many records.
+    Clean(usize),
+    // A first line that begins with # and is no header: the length of its text.
+    BadHeader(usize),
+    // The first item that is an error, and which part of it can't be read.
+    BadRecord { place: usize, fault: Fault },
+    // The first record whose name isn't greater than the one before.
+    Unsorted(usize),
+}
+
+pub enum CheckAnswer {
+    Done(Verdict),
+    UnknownKind,
+    TooLarge,
+}
+
+pub fn check(kind: u32, file: &[u8]) -> CheckAnswer
+    ensures { λ r. ⌜ r ≡ checkAnswer kind (now (file .entry)) ⌝ }
+{
+    let IdKind::Digits(n) = parse::limit::digits(kind) else {
+        return CheckAnswer::UnknownKind;
+    };
+    if parse::limit::over_limit(file.len()) {
+        return CheckAnswer::TooLarge;
+    }
+    let t = parse::class::table();
+    CheckAnswer::Done(check_by(&t, n, file))
+}
+
+// The same by a table of byte classes and for ids of n digits.
+pub fn check_by(t: &[u8; 256], n: usize, file: &[u8]) -> Verdict
+    ensures { λ r. ⌜ r ≡ checkOf (classesOf (now (t .entry))) n (now (file .entry)) ⌝ }
+{
+    match decode::header::open(t, file) {
+        Opened::Unreadable(text) => Verdict::BadHeader(text),
+        Opened::Header(h) => check_body(t, n, file, h.body),
+    }
+}
+
+// The check from a place on, in one pass: only the name before is looked at again.
+pub fn check_body(t: &[u8; 256], n: usize, file: &[u8], body: usize) -> Verdict
+    ensures { λ r. ⌜ r ≡ judgeBody (classesOf (now (t .entry))) n (now (file .entry)) body ⌝ }
+{
+    let mut place = body;
+    let mut count = 0;
+    let mut last = &file[0..0];
+    while place < file.len() {
+        let rest = &file[place..];
+        match decode::reference::reference(t, rest, n) {
+            Reading::Bad(fault) => {
+                return Verdict::BadRecord { place, fault };
+            }
+            Reading::Good(found) => {
+                let name = decode::reference::name_of(rest, n, found);
+                match parse::order::compare(last, name) {
+                    Order::Less => {}
+                    Order::Equal => {
+                        return Verdict::Unsorted(place);
+                    }
+                    Order::Greater => {
+                        return Verdict::Unsorted(place);
+                    }
+                }
+                last = name;
+                count += 1;
+                place += found.size;
+            }
+        }
+    }
+    Verdict::Clean(count)
+}
