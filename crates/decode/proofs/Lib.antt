@@ -3,5 +3,6 @@ pub mod Headers
 pub mod Locality
 pub mod Parts
 pub mod Records
+pub mod Shapes
 pub mod Starts
 pub mod Tokens

@@ -77,3 +77,12 @@ module _ (s : List ℕ) where
     pub start-before : getD s start 0 ≡ 94 → recordStart s place ≡ lineStart s (start - 1)
     unfolding recordStart
     start-before k = rw (← e, k)
+
+pub start-inside : (s : List ℕ) (place : ℕ) → recordStart s place ≤ length s
+unfolding recordStart
+start-inside s place = go (eqb (getD s (lineStart s place) 0) 94) (eqb (lineStart s place) (length s))
+  where
+    go : (t v : Bool) → if t (lineStart s (lineStart s place - 1)) (if v 0 (lineStart s place)) ≤ length s
+    go true v = line-inside s (lineStart s place - 1)
+    go false true = omega arith
+    go false false = line-inside s place

@@ -1,3 +1,4 @@
+pub mod Begins
 pub mod Items
 pub mod Steps
 pub mod Turns

@@ -3,13 +3,11 @@ use mathlib.Core.Bool.{Bool, true, false}
 use mathlib.Core.List.{List, [], _∷_}
 use Prim.Native.Nat.{ℕ, suc, _+_}
 use lib.ListN.{length, drop}
-use Rattle.parse.specs.declared.limit.IdKind.{IdKind}
-use Rattle.parse.specs.declared.limit.IdKind.the-variants.{Digits, Unknown}
 use Rattle.parse.specs.declared.order.Order.{Order}
 use Rattle.parse.specs.declared.order.Order.the-variants.{Less, Equal, Greater}
 use Rattle.parse.specs.Choice.{if}
 use Rattle.parse.specs.Class.{Classes, paper}
-use Rattle.parse.specs.Limit.{digitsOf, overLimit}
+use Rattle.parse.specs.Limit.{admission, admit}
 use Rattle.parse.specs.Order.{orderOf}
 use Rattle.decode.specs.declared.header.Opened.{Opened}
 use Rattle.decode.specs.declared.header.Opened.the-variants.{Header, Unreadable}
@@ -56,12 +54,8 @@ unfoldable pub checkOf : Classes → ℕ → List ℕ → Verdict
 checkOf byte n file = judgeOpened byte n file (headerOf byte file)
 
 -- with the kind's number first, then the size limit
-abbrev pub checkKind : IdKind → List ℕ → CheckAnswer
-checkKind (Digits n) file = if (overLimit (length file)) TooLarge (Done (checkOf paper n file))
-checkKind Unknown file = UnknownKind
-
 unfoldable pub checkAnswer : ℕ → List ℕ → CheckAnswer
-checkAnswer kind file = checkKind (digitsOf kind) file
+checkAnswer kind file = admit (admission kind (length file) 0) (λ n. Done (checkOf paper n file)) UnknownKind TooLarge
 
 -- the paper's number for each case
 abbrev pub checkNumber : CheckAnswer → ℕ

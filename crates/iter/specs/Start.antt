@@ -3,11 +3,9 @@ use mathlib.Core.List.{List}
 use Prim.Native.Nat.{ℕ}
 use lib.Dec.{eqb}
 use lib.ListN.{length, getD}
-use Rattle.parse.specs.declared.limit.IdKind.{IdKind}
-use Rattle.parse.specs.declared.limit.IdKind.the-variants.{Digits, Unknown}
 use Rattle.parse.specs.Choice.{if}
 use Rattle.parse.specs.Class.{Classes, paper}
-use Rattle.parse.specs.Limit.{digitsOf, overLimit}
+use Rattle.parse.specs.Limit.{admission, admit}
 use Rattle.decode.specs.declared.header.Opened.{Opened}
 use Rattle.decode.specs.declared.header.Opened.the-variants.{Header, Unreadable}
 use Rattle.decode.specs.Header.{headerOf}
@@ -28,12 +26,8 @@ unfoldable pub startOf : Classes → List ℕ → Start
 startOf byte s = startBy s (headerOf byte s)
 
 -- with the kind's number first, then the size limit
-abbrev pub startKind : IdKind → List ℕ → StartAnswer
-startKind (Digits n) s = if (overLimit (length s)) TooLarge (Done (startOf paper s))
-startKind Unknown s = UnknownKind
-
 unfoldable pub startAnswer : ℕ → List ℕ → StartAnswer
-startAnswer kind s = startKind (digitsOf kind) s
+startAnswer kind s = admit (admission kind (length s) 0) (λ n. Done (startOf paper s)) UnknownKind TooLarge
 
 -- the paper's number for each case
 abbrev pub startNumber : StartAnswer → ℕ

@@ -1,14 +1,12 @@
 -- One step of an iteration, at a place of the bytes s and with an item number.
-use mathlib.Core.Bool.{Bool, _||_}
+use mathlib.Core.Bool.{Bool}
 use mathlib.Core.List.{List, []}
 use Prim.Native.Nat.{ℕ, _+_, _-_}
 use lib.Dec.{ltb}
 use lib.ListN.{length, take, drop}
-use Rattle.parse.specs.declared.limit.IdKind.{IdKind}
-use Rattle.parse.specs.declared.limit.IdKind.the-variants.{Digits, Unknown}
 use Rattle.parse.specs.Choice.{if}
 use Rattle.parse.specs.Class.{Classes, paper}
-use Rattle.parse.specs.Limit.{digitsOf, overLimit}
+use Rattle.parse.specs.Limit.{admission, admit}
 use Rattle.parse.specs.Line.{lineLen}
 use Rattle.parse.specs.Prefix.{begins}
 use Rattle.decode.specs.declared.reference.Reading.{Reading}
@@ -40,13 +38,9 @@ stepOf byte n prefix s place item =
     if (ltb place (length s)) (stepBy n prefix s place item (recordOf byte n (drop place s))) (End (length s) item)
 
 -- with the kind's number first, then the size limit of each lent input
-abbrev pub stepKind : IdKind → List ℕ → List ℕ → ℕ → ℕ → StepAnswer
-stepKind (Digits n) prefix s place item =
-    if (overLimit (length s) || overLimit (length prefix)) TooLarge (Done (stepOf paper n prefix s place item))
-stepKind Unknown prefix s place item = UnknownKind
-
 unfoldable pub stepAnswer : ℕ → List ℕ → List ℕ → ℕ → ℕ → StepAnswer
-stepAnswer kind prefix s place item = stepKind (digitsOf kind) prefix s place item
+stepAnswer kind prefix s place item =
+    admit (admission kind (length s) (length prefix)) (λ n. Done (stepOf paper n prefix s place item)) UnknownKind TooLarge
 
 -- the paper's number for each case
 abbrev pub stepNumber : StepAnswer → ℕ

@@ -5,7 +5,7 @@ ghost use Rattle.iter.specs.Check.{checkOf, checkAnswer, judgeBody};
 use decode::header::Opened;
 use decode::reference::Fault;
 use decode::reference::Reading;
-use parse::limit::IdKind;
+use parse::limit::Admission;
 use parse::order::Order;
 
 pub enum Verdict {
@@ -28,14 +28,14 @@ pub enum CheckAnswer {
 pub fn check(kind: u32, file: &[u8]) -> CheckAnswer
     ensures { λ r. ⌜ r ≡ checkAnswer kind (now (file .entry)) ⌝ }
 {
-    let IdKind::Digits(n) = parse::limit::digits(kind) else {
-        return CheckAnswer::UnknownKind;
-    };
-    if parse::limit::over_limit(file.len()) {
-        return CheckAnswer::TooLarge;
+    match parse::limit::admit(kind, file.len(), 0) {
+        Admission::Digits(n) => {
+            let t = parse::class::table();
+            CheckAnswer::Done(check_by(&t, n, file))
+        }
+        Admission::UnknownKind => CheckAnswer::UnknownKind,
+        Admission::TooLarge => CheckAnswer::TooLarge,
     }
-    let t = parse::class::table();
-    CheckAnswer::Done(check_by(&t, n, file))
 }
 
 // The same by a table of byte classes and for ids of n digits.

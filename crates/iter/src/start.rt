@@ -3,7 +3,7 @@ ghost use mathlib.Core.Path.{_≡_};
 ghost use Rattle.parse.specs.Class.{classesOf};
 ghost use Rattle.iter.specs.Start.{startOf, startAnswer, firstItem};
 use decode::header::Opened;
-use parse::limit::IdKind;
+use parse::limit::Admission;
 
 pub enum Start {
     // The place behind the header, and the first item's number.
@@ -21,14 +21,14 @@ pub enum StartAnswer {
 pub fn begin(kind: u32, file: &[u8]) -> StartAnswer
     ensures { λ r. ⌜ r ≡ startAnswer kind (now (file .entry)) ⌝ }
 {
-    let IdKind::Digits(_) = parse::limit::digits(kind) else {
-        return StartAnswer::UnknownKind;
-    };
-    if parse::limit::over_limit(file.len()) {
-        return StartAnswer::TooLarge;
+    match parse::limit::admit(kind, file.len(), 0) {
+        Admission::Digits(_) => {
+            let t = parse::class::table();
+            StartAnswer::Done(begin_by(&t, file))
+        }
+        Admission::UnknownKind => StartAnswer::UnknownKind,
+        Admission::TooLarge => StartAnswer::TooLarge,
     }
-    let t = parse::class::table();
-    StartAnswer::Done(begin_by(&t, file))
 }
 
 // The same by a table of byte classes.

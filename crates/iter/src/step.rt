@@ -6,7 +6,7 @@ ghost use Rattle.iter.specs.Step.{stepOf, stepAnswer, more};
 use decode::reference::Fault;
 use decode::reference::Reading;
 use decode::reference::Record;
-use parse::limit::IdKind;
+use parse::limit::Admission;
 
 pub enum Step {
     // Nothing more: the length as next place, the number as it came.
@@ -47,17 +47,14 @@ pub fn next(kind: u32, s: &[u8], place: usize, item: u64) -> StepAnswer
 pub fn next_with_prefix(kind: u32, s: &[u8], prefix: &[u8], place: usize, item: u64) -> StepAnswer
     ensures { λ r. ⌜ r ≡ stepAnswer kind (now (prefix .entry)) (now (s .entry)) place item ⌝ }
 {
-    let IdKind::Digits(n) = parse::limit::digits(kind) else {
-        return StepAnswer::UnknownKind;
-    };
-    if parse::limit::over_limit(s.len()) {
-        return StepAnswer::TooLarge;
+    match parse::limit::admit(kind, s.len(), prefix.len()) {
+        Admission::Digits(n) => {
+            let t = parse::class::table();
+            StepAnswer::Done(next_by(&t, n, prefix, s, place, item))
+        }
+        Admission::UnknownKind => StepAnswer::UnknownKind,
+        Admission::TooLarge => StepAnswer::TooLarge,
     }
-    if parse::limit::over_limit(prefix.len()) {
-        return StepAnswer::TooLarge;
-    }
-    let t = parse::class::table();
-    StepAnswer::Done(next_by(&t, n, prefix, s, place, item))
 }
 
 // The same by a table of byte classes and for ids of n digits.

@@ -5,7 +5,7 @@ use mathlib.Core.List.{List}
 use Prim.Native.Nat.{ℕ, _+_, _≤_, _<_}
 use native.Mathlib.Omega.{arith}
 use lib.Dec.{leb, ltb, eqb}
-use lib.ListN.{getD, length, drop, List·getD-eq-default}
+use lib.ListN.{getD, length, drop, length-drop, List·getD-eq-default}
 use borrow.Author.Tests.{leb-true, leb-false, ltb-true, ltb-false, eqb-true, eqb-false}
 use Rattle.parse.specs.declared.part.Past.the-variants.{At, Unread}
 use Rattle.parse.specs.declared.line.Text.the-variants.{Ended, Unended}
@@ -14,6 +14,7 @@ use Rattle.parse.specs.Run.{span}
 use Rattle.parse.specs.Part.{byteAt}
 use Rattle.parse.specs.Id.{idAt}
 use Rattle.parse.specs.Line.{eol, newlineAt, textLen, textAt}
+use Rattle.parse.proofs.Fronts.{eol-le}
 
 pub data IdView (byte : Classes) (n : ℕ) (s : List ℕ) (at : ℕ) : Type 0 where
   id : n ≤ span (byte .hex) (drop at s) → idAt byte n s at ≡ At (at + n) → IdView byte n s at
@@ -71,3 +72,14 @@ text-view byte s at = go (newline-view s (textEnd byte s at))
     go : NewlineView s (textEnd byte s at) → TextView byte s at
     go (newline some e) = text some (rw e)
     go (no-newline none e) = no-text none (rw e)
+
+-- text and its line end lie inside
+pub text-inside : (byte : Classes) (s : List ℕ) (at : ℕ) {end next : ℕ} → textAt byte s at ≡ Ended end next → (end < next) × (next ≤ length s)
+text-inside byte s at {end} {next} e = go (text-view byte s at)
+  where
+    go : TextView byte s at → (end < next) × (next ≤ length s)
+    go (text some f) =
+        let p : textEnd byte s at ≡ end = cc in
+        let q : textEnd byte s at + eol (drop (textEnd byte s at) s) ≡ next = cc in
+        (omega arith, omega (arith, eol-le (drop (textEnd byte s at) s), length-drop (textEnd byte s at) s))
+    go (no-text z f) = absurd (let x : _≡_ {A = ℕ} 0 1 = cc in omega arith)

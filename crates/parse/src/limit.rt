@@ -1,6 +1,6 @@
 // The first two refusals of every operation: 1 for an unknown id kind, 17 for an input over the size limit.
 ghost use mathlib.Core.Path.{_≡_};
-ghost use Rattle.parse.specs.Limit.{digitsOf, overLimit};
+ghost use Rattle.parse.specs.Limit.{digitsOf, overLimit, admission};
 
 // How many hex digits an id of a kind has.
 pub enum IdKind {
@@ -25,4 +25,27 @@ pub fn over_limit(size: usize) -> bool
     ensures { λ r. ⌜ r ≡ overLimit size ⌝ }
 {
     1_073_741_824 < size
+}
+
+// What every operation asks first: the digits of an id, or the refusal.
+pub enum Admission {
+    Digits(usize),
+    UnknownKind,
+    TooLarge,
+}
+
+// For an operation that is lent inputs of these two sizes; an operation with one input gives 0 for the other.
+pub fn admit(kind: u32, size: usize, other: usize) -> Admission
+    ensures { λ r. ⌜ r ≡ admission kind size other ⌝ }
+{
+    let IdKind::Digits(n) = digits(kind) else {
+        return Admission::UnknownKind;
+    };
+    if over_limit(size) {
+        return Admission::TooLarge;
+    }
+    if over_limit(other) {
+        return Admission::TooLarge;
+    }
+    Admission::Digits(n)
 }

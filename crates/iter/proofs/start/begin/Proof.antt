@@ -1,4 +1,4 @@
--- `iter::start::begin` meets its contract: the table's classes are the paper's.
+-- `iter::start::begin` meets its contract: 1 and 17 first, and the table's classes are the paper's.
 use mathlib.Core.Path.{_≡_, sym, ap, _∙_}
 use Rattle.parse.proofs.Classes.{by-paper}
 use Rattle.iter.specs.declared.start.StartAnswer.the-variants.{Done}
@@ -7,27 +7,12 @@ use borrow.Author.Needs.{needs}
 use Rattle.iter.proofs.start.begin.Statement.{statement}
 use Rattle.iter.proofs.start.begin.Tie as tie
 
-digits-requires : tie.Need-digits-requires
-digits-requires c κs = search needs
+
+admit-requires : tie.Need-admit-requires
+admit-requires c κs = search needs
 
 enum-told : tie.Need-enum-told
 enum-told c = search needs
-
-enum-told-2 : tie.Need-enum-told-2
-enum-told-2 c = search needs
-
-returns : tie.Need-returns
-unfolding startAnswer
-returns c = rw (sym (c .before .before .digits .ensures) ∙ c .enum-told2 .given .1)
-
-over-limit-requires : tie.Need-over-limit-requires
-over-limit-requires c κs = search needs
-
-returns-2 : tie.Need-returns-2
-unfolding startAnswer
-returns-2 c =
-    let k = c .before .before in
-    rw (sym (k .before .before .digits .ensures) ∙ k .enum-told .given .1, sym (c .before .over-limit .ensures) ∙ c .if1 .taken)
 
 table-requires : tie.Need-table-requires
 table-requires c κs = search needs
@@ -35,26 +20,39 @@ table-requires c κs = search needs
 begin-by-requires : tie.Need-begin-by-requires
 begin-by-requires c κs = search needs
 
+enum-told-2 : tie.Need-enum-told-2
+enum-told-2 c = search needs
+
+enum-told-3 : tie.Need-enum-told-3
+enum-told-3 c = search needs
+
+returns : tie.Need-returns
+unfolding startAnswer
+returns c =
+    let t = c .before .before in
+    let k = t .before in
+    let a = k .before .before .before .before .args in
+    rw (sym (k .before .before .admit .ensures) ∙ k .enum-told .given .1)
+    (ap Done (c .begin-by .ensures ∙ by-paper (λ byte. startOf byte (a .file .now)) (t .table .ensures)))
+
+returns-2 : tie.Need-returns-2
+unfolding startAnswer
+returns-2 c = rw (sym (c .before .before .admit .ensures) ∙ c .enum-told2 .given .1)
+
 returns-3 : tie.Need-returns-3
 unfolding startAnswer
-returns-3 c =
-    let t = c .before .before in
-    let e = t .before in
-    let k = e .before .before in
-    let file = k .before .before .before .before .args .file .now in
-    rw (sym (k .before .before .digits .ensures) ∙ k .enum-told .given .1, sym (e .before .over-limit .ensures) ∙ e .if1 .left)
-    (ap Done (c .begin-by .ensures ∙ by-paper (λ byte. startOf byte file) (t .table .ensures)))
+returns-3 c = rw (sym (c .before .before .admit .ensures) ∙ c .enum-told3 .given .1)
 
 pub begin-spec : {M : Type 1} → statement M
 begin-spec =
     tie.close
     (tie.spec
-    digits-requires
+    admit-requires
     enum-told
-    enum-told-2
-    returns
-    over-limit-requires
-    returns-2
     table-requires
     begin-by-requires
+    enum-told-2
+    enum-told-3
+    returns
+    returns-2
     returns-3)

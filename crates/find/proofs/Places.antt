@@ -1,0 +1,23 @@
+-- The place that the search tells lies inside the body.
+use mathlib.Core.Path.{_≡_, ap}
+use mathlib.Core.Bool.{false}
+use mathlib.Core.List.{List}
+use Prim.Native.Nat.{ℕ, _≤_}
+use native.Mathlib.Omega.{arith}
+use lib.ListN.{length}
+use Rattle.parse.specs.Class.{Classes}
+use Rattle.decode.proofs.Starts.{start-inside}
+use Rattle.find.specs.declared.search.Found.{Found}
+use Rattle.find.specs.declared.search.Found.the-variants.{Hit, Miss}
+use Rattle.find.specs.Search.{halve, orderAt, failureAt, placed, searchOf}
+use Rattle.find.specs.Listing.{placeOf}
+
+module _ (byte : Classes) (n : ℕ) (s wanted : List ℕ) where
+  placed-inside : (r : Found) → placeOf (placed byte n s wanted r) ≤ length s
+  placed-inside (Hit m) = start-inside s m
+  placed-inside (Miss low failed) = start-inside s low
+
+  pub search-inside : {r : Found} → searchOf byte n s wanted ≡ r → placeOf r ≤ length s
+  unfolding searchOf
+  search-inside e =
+      rw e at (placed-inside (halve (orderAt byte n s wanted) (failureAt byte n s wanted) (length s) 0 (length s) false))

@@ -1,0 +1,58 @@
+-- `find::lookup::find` meets its contract: 1 and 17 first, and the table's classes are the paper's.
+use mathlib.Core.Path.{_≡_, sym, ap, _∙_}
+use Rattle.parse.proofs.Classes.{by-paper}
+use Rattle.find.specs.declared.lookup.LookupAnswer.the-variants.{Done}
+use Rattle.find.specs.Lookup.{lookupOf, lookupAnswer}
+use borrow.Author.Needs.{needs}
+use Rattle.find.proofs.lookup.find.Statement.{statement}
+use Rattle.find.proofs.lookup.find.Tie as tie
+
+
+admit-requires : tie.Need-admit-requires
+admit-requires c κs = search needs
+
+enum-known-n : tie.Need-enum-known-n
+enum-known-n c = search needs
+
+table-requires : tie.Need-table-requires
+table-requires c κs = search needs
+
+find-by-requires : tie.Need-find-by-requires
+find-by-requires c κs = search needs
+
+enum-told : tie.Need-enum-told
+enum-told c = search needs
+
+enum-told-2 : tie.Need-enum-told-2
+enum-told-2 c = search needs
+
+returns : tie.Need-returns
+unfolding lookupAnswer
+returns c =
+    let t = c .before .before in
+    let k = t .before in
+    let a = k .before .before .before .before .before .before .args in
+    rw (sym (k .before .before .before .admit .ensures) ∙ k .before .n .given .1)
+    (ap Done (c .find-by .ensures ∙ by-paper (λ byte. lookupOf byte (k .before .n .given .0 .0) (a .body .now) (a .name .now)) (t .table .ensures)))
+
+returns-2 : tie.Need-returns-2
+unfolding lookupAnswer
+returns-2 c = rw (sym (c .before .before .admit .ensures) ∙ c .enum-told .given .1)
+
+returns-3 : tie.Need-returns-3
+unfolding lookupAnswer
+returns-3 c = rw (sym (c .before .before .admit .ensures) ∙ c .enum-told2 .given .1)
+
+pub find-spec : {M : Type 1} → statement M
+find-spec =
+    tie.close
+    (tie.spec
+    admit-requires
+    enum-known-n
+    table-requires
+    find-by-requires
+    enum-told
+    enum-told-2
+    returns
+    returns-2
+    returns-3)

@@ -1,0 +1,47 @@
+-- Lookup of one full name.
+use mathlib.Core.Bool.{Bool, true, false, _||_}
+use mathlib.Core.List.{List}
+use Prim.Native.Nat.{ℕ}
+use lib.ListN.{length, drop}
+use Rattle.parse.specs.Choice.{if}
+use Rattle.parse.specs.Class.{Classes, paper}
+use Rattle.parse.specs.Limit.{admission, admit}
+use Rattle.name.specs.Name.{validName}
+use Rattle.decode.specs.declared.reference.Reading.{Reading}
+use Rattle.decode.specs.declared.reference.Reading.the-variants.{Good, Bad}
+use Rattle.decode.specs.Record.{recordOf, faultNumber}
+use Rattle.find.specs.declared.search.Found.{Found}
+use Rattle.find.specs.declared.search.Found.the-variants.{Hit, Miss}
+use Rattle.find.specs.declared.lookup.Lookup.{Lookup}
+use Rattle.find.specs.declared.lookup.Lookup.the-variants.{Charted, BadRecord, Unsure, Absent, BadName}
+use Rattle.find.specs.declared.lookup.LookupAnswer.{LookupAnswer}
+use Rattle.find.specs.declared.lookup.LookupAnswer.the-variants.{Done, UnknownKind, TooLarge}
+use Rattle.find.specs.Search.{searchOf}
+
+-- "On a hit the record is read in full: 0, or 4 if bad; earlier failed probes then don't count."
+abbrev pub readAt : ℕ → Reading → Lookup
+readAt place (Good r) = Charted place r
+readAt place (Bad f) = BadRecord place f
+
+-- "On a miss: 4 if a probe failed, else 5."
+abbrev pub lookupBy : Classes → ℕ → List ℕ → Found → Lookup
+lookupBy byte n s (Hit place) = readAt place (recordOf byte n (drop place s))
+lookupBy byte n s (Miss place failed) = if failed Unsure Absent
+
+-- "Lookup: 1, 17, 3, search."
+unfoldable pub lookupOf : Classes → ℕ → List ℕ → List ℕ → Lookup
+lookupOf byte n s name = if (validName byte name) (lookupBy byte n s (searchOf byte n s name)) BadName
+
+unfoldable pub lookupAnswer : ℕ → List ℕ → List ℕ → LookupAnswer
+lookupAnswer kind s name =
+    admit (admission kind (length s) (length name)) (λ n. Done (lookupOf paper n s name)) UnknownKind TooLarge
+
+-- the paper's number for each case
+abbrev pub lookupNumber : LookupAnswer → ℕ
+lookupNumber (Done (Charted place r)) = 0
+lookupNumber (Done (BadRecord place f)) = faultNumber f
+lookupNumber (Done Unsure) = 4
+lookupNumber (Done Absent) = 5
+lookupNumber (Done BadName) = 3
+lookupNumber UnknownKind = 1
+lookupNumber TooLarge = 17

@@ -1,0 +1,65 @@
+// Lookup of one full name in the bytes behind a header.
+ghost use mathlib.Core.Path.{_≡_};
+ghost use Rattle.parse.specs.Class.{classesOf};
+ghost use Rattle.find.specs.Lookup.{lookupOf, lookupAnswer};
+
+use crate::search::Found;
+use decode::reference::Fault;
+use decode::reference::Reading;
+use decode::reference::Record;
+use parse::limit::Admission;
+
+pub enum Lookup {
+    // The record of that name, and where it starts.
+    Charted { place: usize, found: Record },
+    // The record that was hit can't be read: where it starts, and its first part that can't.
+    BadRecord { place: usize, fault: Fault },
+    // No record was hit, but a probe met a shape that fails: nothing is known.
+    Unsure,
+    // No record was hit, and every probe read a name.
+    Absent,
+    // The wanted name breaks the name rules.
+    BadName,
+}
+
+pub enum LookupAnswer {
+    Done(Lookup),
+    UnknownKind,
+    TooLarge,
+}
+
+pub fn find(kind: u32, body: &[u8], name: &[u8]) -> LookupAnswer
+    ensures { λ r. ⌜ r ≡ lookupAnswer kind (now (body .entry)) (now (name .entry)) ⌝ }
+{
+    match parse::limit::admit(kind, body.len(), name.len()) {
+        Admission::Digits(n) => {
+            let t = parse::class::table();
+            LookupAnswer::Done(find_by(&t, n, body, name))
+        }
+        Admission::UnknownKind => LookupAnswer::UnknownKind,
+        Admission::TooLarge => LookupAnswer::TooLarge,
+    }
+}
+
+// The same by a table of byte classes and for ids of n digits.
+pub fn find_by(t: &[u8; 256], n: usize, body: &[u8], name: &[u8]) -> Lookup
+    ensures { λ r. ⌜ r ≡ lookupOf (classesOf (now (t .entry))) n (now (body .entry)) (now (name .entry)) ⌝ }
+{
+    if !name::is_valid_by(t, name) {
+        return Lookup::BadName;
+    }
+    match crate::search::search(t, n, body, name) {
+        Found::Hit(place) => {
+            match decode::reference::reference(t, parse::part::between(body, place, body.len()), n) {
+                Reading::Good(found) => Lookup::Charted { place, found },
+                Reading::Bad(fault) => Lookup::BadRecord { place, fault },
+            }
+        }
+        Found::Miss { place: _, failed } => {
+            if failed {
+                return Lookup::Unsure;
+            }
+            Lookup::Absent
+        }
+    }
+}
