@@ -1,4 +1,13 @@
 pub mod Begins
+pub mod CheckMeans
+pub mod Cuts
+pub mod Damage
+pub mod Each
+pub mod Examples
+pub mod Front
+pub mod HeaderKept
 pub mod Items
+pub mod Passes
+pub mod Resync
 pub mod Steps
 pub mod Turns

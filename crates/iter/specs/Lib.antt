@@ -1,5 +1,7 @@
 pub mod Check
+pub mod CheckMeans
 pub mod Damage
+pub mod Examples
 pub mod Handed
 pub mod Items
 pub mod Passes

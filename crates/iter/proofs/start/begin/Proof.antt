@@ -7,7 +7,6 @@ use borrow.Author.Needs.{needs}
 use Rattle.iter.proofs.start.begin.Statement.{statement}
 use Rattle.iter.proofs.start.begin.Tie as tie
 
-
 admit-requires : tie.Need-admit-requires
 admit-requires c κs = search needs
 

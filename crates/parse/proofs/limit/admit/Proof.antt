@@ -5,7 +5,6 @@ use borrow.Author.Needs.{needs}
 use Rattle.parse.proofs.limit.admit.Statement.{statement}
 use Rattle.parse.proofs.limit.admit.Tie as tie
 
-
 digits-requires : tie.Need-digits-requires
 digits-requires c κs = search needs
 
