@@ -1,3 +1,5 @@
+pub mod Ask
 pub mod Listing
 pub mod Lookup
+pub mod Present
 pub mod Search

@@ -1,1 +1,137 @@
-// todo
+// The lookup that can be trusted on any bytes: absent is said only of a file that passes the check.
+ghost use mathlib.Core.Path.{_≡_};
+ghost use Rattle.parse.specs.Class.{classesOf};
+ghost use Rattle.find.specs.Ask.{askOf, askAnswer, askBody, soughtFrom, orVerdict};
+use decode::header::Opened;
+use decode::reference::Fault;
+use decode::reference::Reading;
+use decode::reference::Record;
+use parse::limit::Admission;
+use parse::order::Order;
+
+pub enum Told {
+    // A record of the file has the name: where it starts.
+    Charted { place: usize, found: Record },
+    // The whole file passes the check, and no record has the name.
+    Absent,
+    // The wanted name breaks the name rules.
+    BadName,
+    // No record has the name, and the file does not pass the check: the header, the first bad record, the first name out of order.
+    BadHeader(usize),
+    BadRecord { place: usize, fault: Fault },
+    Unsorted(usize),
+}
+
+pub enum AskAnswer {
+    Done(Told),
+    UnknownKind,
+    TooLarge,
+}
+
+// The first record of a name.
+pub enum Sought {
+    At { place: usize, found: Record },
+    Nowhere,
+}
+
+pub fn ask(kind: u32, file: &[u8], name: &[u8]) -> AskAnswer
+    ensures { λ r. ⌜ r ≡ askAnswer kind (now (file .entry)) (now (name .entry)) ⌝ }
+{
+    match parse::limit::admit(kind, file.len(), name.len()) {
+        Admission::Digits(n) => {
+            let t = parse::class::table();
+            AskAnswer::Done(ask_by(&t, n, file, name))
+        }
+        Admission::UnknownKind => AskAnswer::UnknownKind,
+        Admission::TooLarge => AskAnswer::TooLarge,
+    }
+}
+
+// The same by a table of byte classes and for ids of n digits.
+pub fn ask_by(t: &[u8; 256], n: usize, file: &[u8], name: &[u8]) -> Told
+    ensures { λ r. ⌜ r ≡ askOf (classesOf (now (t .entry))) n (now (file .entry)) (now (name .entry)) ⌝ }
+{
+    if !name::is_valid_by(t, name) {
+        return Told::BadName;
+    }
+    match decode::header::open(t, file) {
+        Opened::Unreadable(text) => Told::BadHeader(text),
+        Opened::Header(h) => ask_body(t, n, file, h.body, name),
+    }
+}
+
+// The check from a place on, in one pass, in which a record of the name ends all. At the first fault only the name is looked for
+// from there on.
+pub fn ask_body(t: &[u8; 256], n: usize, file: &[u8], body: usize, name: &[u8]) -> Told
+    ensures { λ r. ⌜ r ≡ askBody (classesOf (now (t .entry))) n (now (file .entry)) body (now (name .entry)) ⌝ }
+{
+    let mut place = body;
+    let mut last = &file[0..0];
+    while place < file.len() {
+        let rest = &file[place..];
+        match decode::reference::reference(t, rest, n) {
+            Reading::Bad(fault) => {
+                return verdict_unless(
+                    first_named(t, n, file, place, name),
+                    Told::BadRecord { place, fault },
+                );
+            }
+            Reading::Good(found) => {
+                let here = decode::reference::name_of(rest, n, found);
+                if parse::prefix::is_same(here, name) {
+                    return Told::Charted { place, found };
+                }
+                match parse::order::compare(last, here) {
+                    Order::Less => {}
+                    Order::Equal => {
+                        return verdict_unless(
+                            first_named(t, n, file, place, name),
+                            Told::Unsorted(place),
+                        );
+                    }
+                    Order::Greater => {
+                        return verdict_unless(
+                            first_named(t, n, file, place, name),
+                            Told::Unsorted(place),
+                        );
+                    }
+                }
+                last = here;
+                place += found.size;
+            }
+        }
+    }
+    Told::Absent
+}
+
+// The first record of a name from a place on, whatever stands between.
+pub fn first_named(t: &[u8; 256], n: usize, file: &[u8], from: usize, name: &[u8]) -> Sought
+    ensures { λ r. ⌜ r ≡ soughtFrom (classesOf (now (t .entry))) n (now (file .entry)) from (now (name .entry)) ⌝ }
+{
+    let mut place = from;
+    while place < file.len() {
+        let rest = &file[place..];
+        match decode::reference::reference(t, rest, n) {
+            Reading::Bad(_) => {
+                place = parse::line::line_end(file, place);
+            }
+            Reading::Good(found) => {
+                if parse::prefix::is_same(decode::reference::name_of(rest, n, found), name) {
+                    return Sought::At { place, found };
+                }
+                place += found.size;
+            }
+        }
+    }
+    Sought::Nowhere
+}
+
+// A record that was found, or else the verdict on the file.
+fn verdict_unless(sought: Sought, verdict: Told) -> Told
+    ensures { λ r. ⌜ r ≡ orVerdict sought verdict ⌝ }
+{
+    match sought {
+        Sought::At { place, found } => Told::Charted { place, found },
+        Sought::Nowhere => verdict,
+    }
+}

@@ -4,7 +4,6 @@ ghost use Prim.Native.Nat.{_≤_};
 ghost use lib.ListN.{length};
 ghost use Rattle.parse.specs.Class.{classesOf};
 ghost use Rattle.find.specs.Listing.{listingOf, listingFrom, listingAnswer};
-
 use crate::search::Found;
 use iter::start::Start;
 use parse::limit::Admission;
@@ -51,7 +50,10 @@ fn list_from(t: &[u8; 256], body: &[u8], place: usize) -> Listing
     ensures { λ r. ⌜ r ≡ listingFrom (classesOf (now (t .entry))) (now (body .entry)) place ⌝ }
 {
     match iter::start::begin_by(t, parse::part::between(body, place, body.len())) {
-        Start::At { place: behind, item } => Listing::From {
+        Start::At {
+            place: behind,
+            item,
+        } => Listing::From {
             place: place + behind,
             item,
         },

@@ -2,7 +2,6 @@
 ghost use mathlib.Core.Path.{_≡_};
 ghost use Rattle.parse.specs.Class.{classesOf};
 ghost use Rattle.find.specs.Lookup.{lookupOf, lookupAnswer};
-
 use crate::search::Found;
 use decode::reference::Fault;
 use decode::reference::Reading;
@@ -50,7 +49,11 @@ pub fn find_by(t: &[u8; 256], n: usize, body: &[u8], name: &[u8]) -> Lookup
     }
     match crate::search::search(t, n, body, name) {
         Found::Hit(place) => {
-            match decode::reference::reference(t, parse::part::between(body, place, body.len()), n) {
+            match decode::reference::reference(
+                t,
+                parse::part::between(body, place, body.len()),
+                n,
+            ) {
                 Reading::Good(found) => Lookup::Charted { place, found },
                 Reading::Bad(fault) => Lookup::BadRecord { place, fault },
             }

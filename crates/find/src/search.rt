@@ -2,7 +2,6 @@
 ghost use mathlib.Core.Path.{_≡_};
 ghost use Rattle.parse.specs.Class.{classesOf};
 ghost use Rattle.find.specs.Search.{searchOf, probedOf};
-
 use decode::shape::Shape;
 use parse::order::Order;
 

@@ -1,4 +1,4 @@
--- One turn of the check: what the items from a place on come to, by the record that stands there. For any classes.
+-- One turn of a loop over items: the item at a place, and what the check comes to there. For any classes.
 use mathlib.Core.Path.{_≡_, refl, sym, ap, _∙_}
 use mathlib.Core.Bool.{true, false}
 use mathlib.Core.List.{List, [], _∷_}
@@ -8,6 +8,7 @@ use lib.ListN.{length, take, drop, length-drop, drop-of-length-le}
 use lib.Seq.{drop-drop, length-take-le}
 use Rattle.parse.specs.Choice.{if}
 use Rattle.parse.specs.Class.{Classes}
+use Rattle.parse.specs.Line.{lineLen}
 use Rattle.parse.specs.Order.{orderOf}
 use Rattle.parse.proofs.Slices.{part-of-front}
 use Rattle.decode.specs.declared.reference.Fault.{Fault}
@@ -22,56 +23,66 @@ use Rattle.iter.specs.Items.{Item, sizeOf, itemOf, items, nameIn, nameOf
 use Rattle.iter.specs.Check.{isLess, orElse, judge}
 use Rattle.iter.proofs.Items.{size-good, size-le, items-nil, items-step}
 
-module _ (byte : Classes) (n : ℕ) where
-  -- the name of the item at the front is that part of all the bytes
-  pub item-name : (s : List ℕ) (r : Record) → recordOf byte n s ≡ Good r → nameOf n (itemOf byte n s) ≡ take (r .name) (drop (n + 1) s)
-  item-name s r e =
-      let f = fits byte n s r e in
-      ap (λ (w : Reading). nameIn n w (take (sizeOf byte n s) s)) e ∙ ap (λ (k : ℕ). take (r .name) (drop (n + 1) (take k s))) (size-good byte n s r e)
-      ∙ part-of-front (r .name) (n + 1) (r .size) s (omega (arith, f .holds))
+-- the item at a place, and those behind it
+pub record HeadItem (byte : Classes) (n : ℕ) (file : List ℕ) (place : ℕ) (what : Reading) (size : ℕ) : Type 0 where
+  pub it : Item
+  pub all : items byte n (drop place file) ≡ it ∷ items byte n (drop (place + size) file)
+  pub is : it .what ≡ what
+  pub long : length (it .bytes) ≡ size
+  pub name : nameIn n what (it .bytes) ≡ nameIn n what (drop place file)
 
-  -- a record goes by its name
-  judge-good : (place count : ℕ) (last : List ℕ) (i : Item) (l : List Item) (r : Record) (w : List ℕ) (k : ℕ)
-      → i .what ≡ Good r → take (r .name) (drop (n + 1) (i .bytes)) ≡ w → length (i .bytes) ≡ k
-      → judge n place count last (i ∷ l) ≡ if (isLess (orderOf last w)) (judge n (place + k) (suc count) w l) (Unsorted place)
-  judge-good place count last i l r w k e name len = rw (e, name, len)
+module _ (byte : Classes) (n : ℕ) (file : List ℕ) (place : ℕ) where
+  head-item : place < length file → (what : Reading) (size : ℕ) → recordOf byte n (drop place file) ≡ what → sizeOf byte n (drop place file) ≡ size
+      → nameIn n what (take size (drop place file)) ≡ nameIn n what (drop place file) → HeadItem byte n file place what size
+  head-item inside what size e z name =
+      let rest = drop place file in
+      let d : drop (sizeOf byte n rest) rest ≡ drop (place + size) file = ap (λ (k : ℕ). drop k rest) z ∙ drop-drop size place file in
+      record {
+        it = itemOf byte n rest;
+        all = items-step byte n rest (omega (arith, length-drop place file)) ∙ ap (λ (l : List ℕ). itemOf byte n rest ∷ items byte n l) d;
+        is = e;
+        long = length-take-le (sizeOf byte n rest) rest (size-le byte n rest) ∙ z;
+        name = ap (λ (k : ℕ). nameIn n what (take k rest)) z ∙ name;
+      }
 
-  module _ (file : List ℕ) (place count : ℕ) (last : List ℕ) where
-    pub turn-end : length file ≤ place → judge n place count last (items byte n (drop place file)) ≡ Clean count
-    turn-end h = rw (drop-of-length-le file h, items-nil byte n)
+  pub head-bad : place < length file → (f : Fault) → recordOf byte n (drop place file) ≡ Bad f
+      → HeadItem byte n file place (Bad f) (lineLen (drop place file))
+  unfolding sizeOf
+  head-bad inside f e = head-item inside (Bad f) (lineLen (drop place file)) e (rw e) refl
 
-    module _ (inside : place < length file) where
-      step : items byte n (drop place file) ≡ itemOf byte n (drop place file) ∷ items byte n (drop (sizeOf byte n (drop place file)) (drop place file))
-      step = items-step byte n (drop place file) (omega (arith, length-drop place file))
+  module _ (r : Record) (e : recordOf byte n (drop place file) ≡ Good r) where
+    pub head-good : place < length file → HeadItem byte n file place (Good r) (r .size)
+    head-good inside =
+        let f = fits byte n (drop place file) r e in
+        head-item inside (Good r) (r .size) e (size-good byte n (drop place file) r e)
+        (part-of-front (r .name) (n + 1) (r .size) (drop place file) (omega (arith, f .holds)))
 
-      pub turn-bad : (f : Fault) → recordOf byte n (drop place file) ≡ Bad f → judge n place count last (items byte n (drop place file)) ≡ BadRecord place f
-      turn-bad f e = rw (step, e)
+    pub next-inside : place < length file → (place < place + r .size) × (place + r .size ≤ length file)
+    next-inside inside =
+        let f = fits byte n (drop place file) r e in
+        (omega (arith, f .holds), omega (arith, f .inside, length-drop place file))
 
-      module _ (r : Record) (e : recordOf byte n (drop place file) ≡ Good r) where
-        pub next-inside : (place < place + r .size) × (place + r .size ≤ length file)
-        next-inside =
-            let f = fits byte n (drop place file) r e in
-            (omega (arith, f .holds), omega (arith, f .inside, length-drop place file))
+-- ---- the check
 
-        turn : judge n place count last (items byte n (drop place file))
-            ≡ if (isLess (orderOf last (take (r .name) (drop (n + 1) (drop place file)))))
-            (judge n (place + r .size) (suc count) (take (r .name) (drop (n + 1) (drop place file))) (items byte n (drop (place + r .size) file)))
-            (Unsorted place)
-        turn =
-            let rest = drop place file in
-            let f = fits byte n rest r e in
-            let z : sizeOf byte n rest ≡ r .size = size-good byte n rest r e in
-            let d : drop (sizeOf byte n rest) rest ≡ drop (place + r .size) file = ap (λ (k : ℕ). drop k rest) z ∙ drop-drop (r .size) place file in
-            ap (judge n place count last) (step ∙ ap (λ (l : List ℕ). itemOf byte n rest ∷ items byte n l) d)
-            ∙ judge-good place count last (itemOf byte n rest) (items byte n (drop (place + r .size) file)) r (take (r .name) (drop (n + 1) rest)) (r .size) e
-            (ap (λ (k : ℕ). take (r .name) (drop (n + 1) (take k rest))) z ∙ part-of-front (r .name) (n + 1) (r .size) rest (omega (arith, f .holds)))
-            (ap (λ (k : ℕ). length (take k rest)) z ∙ length-take-le (r .size) rest (f .inside))
+module _ (byte : Classes) (n : ℕ) (file : List ℕ) (place count : ℕ) (last : List ℕ) where
+  pub turn-end : length file ≤ place → judge n place count last (items byte n (drop place file)) ≡ Clean count
+  turn-end h = rw (drop-of-length-le file h, items-nil byte n)
 
-        pub turn-unsorted : isLess (orderOf last (take (r .name) (drop (n + 1) (drop place file)))) ≡ false
-            → judge n place count last (items byte n (drop place file)) ≡ Unsorted place
-        turn-unsorted l = turn ∙ rw l
+  module _ (inside : place < length file) where
+    pub turn-bad : (f : Fault) → recordOf byte n (drop place file) ≡ Bad f → judge n place count last (items byte n (drop place file)) ≡ BadRecord place f
+    turn-bad f e = let h = head-bad byte n file place inside f e in rw (h .all, h .is)
 
-        pub turn-good : isLess (orderOf last (take (r .name) (drop (n + 1) (drop place file)))) ≡ true
-            → judge n place count last (items byte n (drop place file))
-            ≡ judge n (place + r .size) (suc count) (take (r .name) (drop (n + 1) (drop place file))) (items byte n (drop (place + r .size) file))
-        turn-good l = turn ∙ rw l
+    module _ (r : Record) (e : recordOf byte n (drop place file) ≡ Good r) where
+      abbrev name : List ℕ
+      name = take (r .name) (drop (n + 1) (drop place file))
+
+      turn : judge n place count last (items byte n (drop place file))
+          ≡ if (isLess (orderOf last name)) (judge n (place + r .size) (suc count) name (items byte n (drop (place + r .size) file))) (Unsorted place)
+      turn = let h = head-good byte n file place r e inside in rw (h .all, h .is, h .name, h .long)
+
+      pub turn-unsorted : isLess (orderOf last name) ≡ false → judge n place count last (items byte n (drop place file)) ≡ Unsorted place
+      turn-unsorted l = turn ∙ rw l
+
+      pub turn-good : isLess (orderOf last name) ≡ true
+          → judge n place count last (items byte n (drop place file)) ≡ judge n (place + r .size) (suc count) name (items byte n (drop (place + r .size) file))
+      turn-good l = turn ∙ rw l

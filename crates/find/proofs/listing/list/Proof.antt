@@ -7,7 +7,6 @@ use borrow.Author.Needs.{needs}
 use Rattle.find.proofs.listing.list.Statement.{statement}
 use Rattle.find.proofs.listing.list.Tie as tie
 
-
 admit-requires : tie.Need-admit-requires
 admit-requires c κs = search needs
 

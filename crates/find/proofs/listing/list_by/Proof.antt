@@ -7,7 +7,6 @@ use borrow.Author.Needs.{needs}
 use Rattle.find.proofs.listing.list_by.Statement.{statement}
 use Rattle.find.proofs.listing.list_by.Tie as tie
 
-
 search-requires : tie.Need-search-requires
 search-requires c κs = search needs
 

@@ -11,7 +11,6 @@ use borrow.Author.Needs.{needs}
 use Rattle.find.proofs.listing.list_from.Statement.{statement}
 use Rattle.find.proofs.listing.list_from.Tie as tie
 
-
 between-requires : tie.Need-between-requires
 between-requires c κs = search needs
 

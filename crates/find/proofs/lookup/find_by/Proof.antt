@@ -9,7 +9,6 @@ use borrow.Author.Needs.{needs}
 use Rattle.find.proofs.lookup.find_by.Statement.{statement}
 use Rattle.find.proofs.lookup.find_by.Tie as tie
 
-
 is-valid-by-requires : tie.Need-is-valid-by-requires
 is-valid-by-requires c κs = search needs
 

@@ -12,7 +12,6 @@ use borrow.Author.Needs.{needs}
 use Rattle.find.proofs.search.probe.Statement.{statement}
 use Rattle.find.proofs.search.probe.Tie as tie
 
-
 name-at-record-start-requires : tie.Need-name-at-record-start-requires
 name-at-record-start-requires c κs = search needs
 
@@ -61,8 +60,8 @@ returns c =
     let name = f .name .given .0 .0 in
     let z : a .n + 1 + name - (a .n + 1) ≡ name = omega arith in
     let order =
-        c .compare .ensures
-        ∙ ap (λ w. orderOf w (a .wanted .now)) (c .before .between .ensures ∙ ap (λ m. take m (drop (a .n + 1) (a .s .now))) z) in
+    c .compare .ensures
+    ∙ ap (λ w. orderOf w (a .wanted .now)) (c .before .between .ensures ∙ ap (λ m. take m (drop (a .n + 1) (a .s .now))) z) in
     rw (sym (k .name-at-record-start .ensures) ∙ f .name .given .1) (λ i. record { order = order i; failed = false })
 
 returns-2 : tie.Need-returns-2

@@ -15,7 +15,6 @@ use borrow.Author.Needs.{needs}
 use Rattle.find.proofs.search.search.Statement.{statement}
 use Rattle.find.proofs.search.search.Tie as tie
 
-
 abbrev Inv-loop : tie.InvT-loop
 Inv-loop t n s wanted low₀ high₀ failed₀ low high failed = Going (orderAt (classesOf t) n s wanted) (failureAt (classesOf t) n s wanted) (length s) low high failed
 

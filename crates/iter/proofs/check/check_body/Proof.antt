@@ -120,7 +120,7 @@ add-place c =
     let byte = classesOf (a .t .now) in
     let rest = rest-is (a .file .now) (l .loop .place) in
     let read = ap (recordOf byte (a .n)) (sym rest) ∙ sym (k .reference .ensures) ∙ f .found .given .1 in
-    omega (arith, next-inside byte (a .n) (a .file .now) (l .loop .place) (l .loop .count) (l .loop .last .now) (search needs) (f .found .given .0 .0) read, l .before .before .before .good)
+    omega (arith, next-inside byte (a .n) (a .file .now) (l .loop .place) (f .found .given .0 .0) read (search needs), l .before .before .before .good)
 
 loop-less : tie.Need-loop-less Inv-loop μ-loop
 loop-less c =
@@ -133,7 +133,7 @@ loop-less c =
     let byte = classesOf (a .t .now) in
     let rest = rest-is (a .file .now) (l .loop .place) in
     let read = ap (recordOf byte (a .n)) (sym rest) ∙ sym (k .reference .ensures) ∙ f .found .given .1 in
-    omega (arith, next-inside byte (a .n) (a .file .now) (l .loop .place) (l .loop .count) (l .loop .last .now) (search needs) (f .found .given .0 .0) read)
+    omega (arith, next-inside byte (a .n) (a .file .now) (l .loop .place) (f .found .given .0 .0) read (search needs))
 
 loop-again : tie.Need-loop-again Inv-loop μ-loop
 loop-again c =
@@ -149,7 +149,7 @@ loop-again c =
     let name = m .name-of .ensures ∙ ap (λ r. take (f .found .given .0 .0 .name) (drop (a .n + 1) r)) rest in
     let order = ap (orderOf (l .loop .last .now)) (sym name) ∙ sym (q .compare .ensures) ∙ c .before .enum-told .given .1 in
     let again = sym (turn-good byte (a .n) (a .file .now) (l .loop .place) (l .loop .count) (l .loop .last .now) (search needs) (f .found .given .0 .0) read (ap isLess order)) ∙ l .loop .inv .1 in
-    (omega (arith, next-inside byte (a .n) (a .file .now) (l .loop .place) (l .loop .count) (l .loop .last .now) (search needs) (f .found .given .0 .0) read), rw (add-one, name) again)
+    (omega (arith, next-inside byte (a .n) (a .file .now) (l .loop .place) (f .found .given .0 .0) read (search needs)), rw (add-one, name) again)
 
 returns-4 : tie.Need-returns-4 Inv-loop μ-loop
 returns-4 c =

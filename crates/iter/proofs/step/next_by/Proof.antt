@@ -63,7 +63,7 @@ add-t22 c =
     let byte = classesOf (a .t .now) in
     let rest = rest-is (a .s .now) (a .place) in
     let read = ap (recordOf byte (a .n)) (sym rest) ∙ sym (k .reference .ensures) ∙ f .found .given .1 in
-    omega (arith, next-inside byte (a .n) (a .s .now) (a .place) 0 (a .s .now) (search needs) (f .found .given .0 .0) read, k .before .before .before .before .before .good)
+    omega (arith, next-inside byte (a .n) (a .s .now) (a .place) (f .found .given .0 .0) read (search needs), k .before .before .before .before .before .good)
 
 one-more-requires : tie.Need-one-more-requires
 one-more-requires c κs = search needs

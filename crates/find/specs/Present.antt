@@ -1,0 +1,90 @@
+-- What lookup, listing and the trusted lookup mean.
+use mathlib.Core.Path.{_≡_}
+use mathlib.Core.Bool.{Bool, true, false, not, _&&_}
+use mathlib.Core.List.{List, [], _∷_}
+use Prim.Native.Nat.{ℕ, zero, suc, _+_, _^_, _≤_, _<_}
+use lib.ListN.{length, drop}
+use Rattle.parse.specs.Choice.{if}
+use Rattle.parse.specs.Class.{Classes, paper}
+use Rattle.parse.specs.Prefix.{begins}
+use Rattle.decode.specs.declared.header.Header.{Header}
+use Rattle.decode.specs.declared.header.Opened.the-variants as opened
+use Rattle.decode.specs.declared.reference.Record.{Record}
+use Rattle.decode.specs.declared.reference.Reading.the-variants as reading
+use Rattle.decode.specs.Header.{headerOf}
+use Rattle.iter.specs.declared.check.Verdict.the-variants as verdict
+use Rattle.iter.specs.declared.step.Step.{Step}
+use Rattle.iter.specs.declared.step.Step.the-variants as step
+use Rattle.iter.specs.Items.{Item, itemOf, items, nameOf}
+use Rattle.iter.specs.Check.{checkOf}
+use Rattle.iter.specs.Passes.{isGood}
+use Rattle.iter.specs.Stands.{Stands}
+use Rattle.iter.specs.Step.{stepOf}
+use Rattle.find.specs.declared.lookup.Lookup.the-variants as lookup
+use Rattle.find.specs.declared.listing.Listing.the-variants.{From}
+use Rattle.find.specs.declared.ask.Told.the-variants as told
+use Rattle.find.specs.Search.{failureAt, probesOf}
+use Rattle.find.specs.Lookup.{lookupOf}
+use Rattle.find.specs.Listing.{listingOf}
+use Rattle.find.specs.Ask.{askOf}
+
+-- in the body s a record of the name stands at a place
+pub record Named (n : ℕ) (s name : List ℕ) (place : ℕ) (r : Record) : Type 0 where
+  pub it : Item
+  pub stands : Stands paper n s place it
+  pub good : it .what ≡ reading.Good r
+  pub name-is : nameOf n it ≡ name
+
+-- ---- "Behind the header of a file that passes the check, a valid name is found exactly if a record has it."
+
+pub record FoundExactly (n : ℕ) (s name : List ℕ) : Type 0 where
+  -- with that record's start and its parts; and at most one record has it
+  pub found : (place : ℕ) (r : Record) → Named n s name place r → lookupOf paper n s name ≡ lookup.Charted place r
+  pub only : (place : ℕ) (r : Record) → lookupOf paper n s name ≡ lookup.Charted place r → Named n s name place r
+  pub absent : ((place : ℕ) (r : Record) → Named n s name place r → ⊥) → lookupOf paper n s name ≡ lookup.Absent
+  -- every probe reads a name
+  pub reads : (place : ℕ) → place < length s → failureAt paper n s name place ≡ false
+
+-- ---- "In a checked file it lists exactly the records with the prefix, in order."
+
+-- the items that steps with a prefix go through, from a place on
+abbrev pub stepped : Step → Item → List Item → List Item
+stepped (step.End next item) i l = []
+stepped (step.Good r next item) i l = i ∷ l
+stepped (step.Error f number text next item) i l = i ∷ l
+
+abbrev pub nextPlace : Step → ℕ
+nextPlace (step.End next item) = next
+nextPlace (step.Good r next item) = next
+nextPlace (step.Error f number text next item) = next
+
+abbrev pub walk : ℕ → List ℕ → List ℕ → ℕ → ℕ → List Item
+walk n prefix s zero place = []
+walk n prefix s (suc turns) place =
+    let now = stepOf paper n prefix s place 1 in
+    stepped now (itemOf paper n (drop place s)) (walk n prefix s turns (nextPlace now))
+
+abbrev pub withPrefix : ℕ → List ℕ → List Item → List Item
+withPrefix n prefix [] = []
+withPrefix n prefix (i ∷ l) = if (begins prefix (nameOf n i)) (i ∷ withPrefix n prefix l) (withPrefix n prefix l)
+
+pub record ListsExactly (n : ℕ) (s prefix : List ℕ) : Type 0 where
+  pub place : ℕ
+  pub start : listingOf paper n s prefix ≡ From place 1
+  pub all : walk n prefix s (suc (length s)) place ≡ withPrefix n prefix (items paper n s)
+
+-- ---- probes: no more than the length has binary digits, that is no more than j where it is below 2 to the j
+
+pub record FewProbes (byte : Classes) (n : ℕ) (s wanted : List ℕ) : Type 0 where
+  pub few : (j : ℕ) → length s < 2 ^ j → probesOf byte n s wanted ≤ j
+
+-- ---- the lookup that can be trusted on any bytes
+
+pub record Trusted (n : ℕ) (file name : List ℕ) : Type 0 where
+  -- absent: the file passes the check, and no record of it has the name
+  pub absent : askOf paper n file name ≡ told.Absent
+      → (count : ℕ) × (h : Header) × (checkOf paper n file ≡ verdict.Clean count) × (headerOf paper file ≡ opened.Header h)
+      × ((place : ℕ) (r : Record) → Named n (drop (h .body) file) name place r → ⊥)
+  -- charted: a record of the file has the name, at the place told
+  pub charted : (place : ℕ) (r : Record) → askOf paper n file name ≡ told.Charted place r
+      → (h : Header) × (inner : ℕ) × (headerOf paper file ≡ opened.Header h) × (place ≡ h .body + inner) × Named n (drop (h .body) file) name inner r
