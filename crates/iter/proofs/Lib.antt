@@ -10,4 +10,5 @@ pub mod Items
 pub mod Passes
 pub mod Resync
 pub mod Steps
+pub mod TextKept
 pub mod Turns

@@ -59,9 +59,9 @@ module _ (n place count : ℕ) (last : List ℕ) (i : Item) (l : List Item) wher
   judge-go : Goes n last i → judge n place count last (i ∷ l) ≡ judge n (place + length (i .bytes)) (suc count) (nameOf n i) l
   judge-go h = rw (good-else (i .what) place _ (h .good), h .up)
 
--- ---- some items: none stops the check, or one is the first that does
+-- ---- some items: none of them stops the check, or one is the first that does
 
--- the check of the items l gets past those before it, and so to it
+-- the check of the items l gets past those before, which are records in ascending order, and comes to it
 pub record Reached (n : ℕ) (last : List ℕ) (l before : List Item) (it : Item) : Type 0 where
   pub after : List Item
   pub all : l ≡ before ++ it ∷ after
@@ -123,7 +123,7 @@ module _ (n begin : ℕ) (l : List Item) where
   pub judges-unsorted : {place : ℕ} → FirstUnsorted n begin l place → judge n begin 0 [] l ≡ Unsorted place
   judges-unsorted h = rw (h .first .here) (judge-stops (reached (h .first)) (unsorted (h .good) (h .not-greater)))
 
-  -- and back: of what the items are, only one thing goes with a verdict
+  -- and back: what a verdict says of the items, and that it is true
 
   abbrev pub Says : Verdict → Type 0
   Says (Clean m) = Passes n l m

@@ -41,16 +41,16 @@ abbrev pub cases : List Case
 cases =
     -- empty bytes: no items, and no records
     record { bytes = []; out = []; verdict = Clean 0 }
-    -- `x` LF: an error, whose text is `x`; without LF the error's last byte is the `x` itself
+    -- an error's text is its bytes less the last one: `x` of `x` LF, nothing of `x` alone
     ∷ record { bytes = 120 ∷ 10 ∷ []; out = error 1 (120 ∷ []) ∷ []; verdict = BadRecord 0 Id }
     ∷ record { bytes = 120 ∷ []; out = error 1 [] ∷ []; verdict = BadRecord 0 Id }
-    -- a bad second line makes the record bad: each line is an error of its own
+    -- a second line that can't be read makes the record bad, and each line is an error of its own
     ∷ record {
       bytes = line (10 ∷ 94 ∷ 122 ∷ 122 ∷ 10 ∷ []);
       out = error 1 (line []) ∷ error 2 (94 ∷ 122 ∷ 122 ∷ []) ∷ [];
       verdict = BadRecord 0 Peeled;
     }
-    -- CR LF ends a line; a bare CR does not, nor do the bytes' end
+    -- CR LF ends a line; a bare CR does not, and the end of the bytes does not
     ∷ record { bytes = line (13 ∷ 10 ∷ []); out = good ones (refsS ++ 97 ∷ []) ∷ []; verdict = Clean 1 }
     ∷ record { bytes = line (13 ∷ 98 ∷ 10 ∷ []); out = error 1 (line (13 ∷ 98 ∷ [])) ∷ []; verdict = BadRecord 0 LineEnd }
     ∷ record { bytes = line []; out = error 1 (ones ++ 32 ∷ refsS) ∷ []; verdict = BadRecord 0 LineEnd }
