@@ -1,4 +1,5 @@
 pub mod Ask
+pub mod Examples
 pub mod Listing
 pub mod Lookup
 pub mod Present

@@ -23,7 +23,7 @@ use Rattle.iter.specs.Step.{stepOf}
 use Rattle.find.specs.declared.lookup.Lookup.the-variants as lookup
 use Rattle.find.specs.declared.listing.Listing.the-variants.{From}
 use Rattle.find.specs.declared.ask.Told.the-variants as told
-use Rattle.find.specs.Search.{failureAt, probesOf}
+use Rattle.find.specs.Search.{halve, orderAt, failureAt, placed, searchOf, probesOf}
 use Rattle.find.specs.Lookup.{lookupOf}
 use Rattle.find.specs.Listing.{listingOf}
 use Rattle.find.specs.Ask.{askOf}
@@ -44,6 +44,10 @@ pub record FoundExactly (n : ℕ) (s name : List ℕ) : Type 0 where
   pub absent : ((place : ℕ) (r : Record) → Named n s name place r → ⊥) → lookupOf paper n s name ≡ lookup.Absent
   -- every probe reads a name
   pub reads : (place : ℕ) → place < length s → failureAt paper n s name place ≡ false
+
+-- the same said of a file: behind the header of a file that passes the check
+pub record InChecked (n : ℕ) (file : List ℕ) (P : List ℕ → Type 0) : Type 0 where
+  pub behind : (count : ℕ) (h : Header) → checkOf paper n file ≡ verdict.Clean count → headerOf paper file ≡ opened.Header h → P (drop (h .body) file)
 
 -- ---- "In a checked file it lists exactly the records with the prefix, in order."
 
@@ -77,6 +81,9 @@ pub record ListsExactly (n : ℕ) (s prefix : List ℕ) : Type 0 where
 
 pub record FewProbes (byte : Classes) (n : ℕ) (s wanted : List ℕ) : Type 0 where
   pub few : (j : ℕ) → length s < 2 ^ j → probesOf byte n s wanted ≤ j
+  -- after so many turns the search has ended
+  pub enough : (j : ℕ) → length s < 2 ^ j
+      → searchOf byte n s wanted ≡ placed byte n s wanted (halve (orderAt byte n s wanted) (failureAt byte n s wanted) j 0 (length s) false)
 
 -- ---- the lookup that can be trusted on any bytes
 

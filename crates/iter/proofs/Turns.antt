@@ -23,6 +23,15 @@ use Rattle.iter.specs.Items.{Item, sizeOf, itemOf, items, nameIn, nameOf
 use Rattle.iter.specs.Check.{isLess, orElse, judge}
 use Rattle.iter.proofs.Items.{size-good, size-le, items-nil, items-step}
 
+-- the name of the item at the front is that part of all the bytes
+pub item-name : (byte : Classes) (n : ℕ) (s : List ℕ) (r : Record) → recordOf byte n s ≡ Good r
+    → nameOf n (itemOf byte n s) ≡ take (r .name) (drop (n + 1) s)
+item-name byte n s r e =
+    let f = fits byte n s r e in
+    ap (λ (w : Reading). nameIn n w (take (sizeOf byte n s) s)) e
+    ∙ ap (λ (k : ℕ). take (r .name) (drop (n + 1) (take k s))) (size-good byte n s r e)
+    ∙ part-of-front (r .name) (n + 1) (r .size) s (omega (arith, f .holds))
+
 -- the item at a place, and those behind it
 pub record HeadItem (byte : Classes) (n : ℕ) (file : List ℕ) (place : ℕ) (what : Reading) (size : ℕ) : Type 0 where
   pub it : Item

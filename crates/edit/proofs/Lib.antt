@@ -1,0 +1,5 @@
+pub mod Changes
+pub mod Filling
+pub mod Lists
+pub mod Ordering
+pub mod Outcomes

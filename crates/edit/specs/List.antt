@@ -1,0 +1,117 @@
+-- A whole edit list.
+use mathlib.Core.Bool.{Bool, true, false}
+use mathlib.Core.List.{List, [], _∷_, _++_}
+use Prim.Native.Nat.{ℕ, zero, suc, _+_}
+use lib.Dec.{ltb}
+use lib.ListN.{length, drop}
+use Rattle.parse.specs.Choice.{if}
+use Rattle.parse.specs.Class.{Classes}
+use Rattle.parse.specs.Limit.{overLimit}
+use Rattle.sort.specs.declared.name.Layout.the-variants.{Edit}
+use Rattle.sort.specs.declared.twin.Twin.{Twin}
+use Rattle.sort.specs.declared.twin.Twin.the-variants as twin
+use Rattle.sort.specs.Name.{nameOf}
+use Rattle.sort.specs.Order.{comesFirst}
+use Rattle.sort.specs.Sorted.{sorted}
+use Rattle.sort.specs.Twin.{firstTwin}
+use Rattle.edit.specs.declared.change.Change.{Change}
+use Rattle.edit.specs.declared.change.Reading.{Reading}
+use Rattle.edit.specs.declared.change.Reading.the-variants as reading
+use Rattle.edit.specs.declared.list.Edits.{Edits}
+use Rattle.edit.specs.declared.list.Edits.the-variants as edits
+use Rattle.edit.specs.declared.list.Prepared.{Prepared}
+use Rattle.edit.specs.declared.list.Prepared.the-variants.{Ready, Malformed, BadName, TooMany, ShortIndex, Twins, TooLarge}
+use Rattle.edit.specs.Change.{changeOf}
+
+-- ---- the edits' places, or the first fault and its place
+
+pub data Listed : Type 0 where
+  all : (places : List ℕ) → Listed
+  malformed : (place : ℕ) → Listed
+  badName : (place : ℕ) → Listed
+  tooMany : (place : ℕ) → Listed
+
+abbrev pub onto : ℕ → Listed → Listed
+onto place (all l) = all (place ∷ l)
+onto place (malformed p) = malformed p
+onto place (badName p) = badName p
+onto place (tooMany p) = tooMany p
+
+abbrev pub listedBy : Reading → ℕ → (Change → Listed) → Listed
+listedBy (reading.Good c) place next = next c
+listedBy reading.Malformed place next = malformed place
+listedBy reading.BadName place next = badName place
+
+-- "edits one after another"; "First fault in the list wins; 9 comes where that edit would begin": after so many turns no edit may begin
+module _ (byte : Classes) (n : ℕ) (list : List ℕ) where
+  unfoldable pub editsFrom : ℕ → ℕ → Listed
+  editsFrom zero place = if (ltb place (length list)) (tooMany place) (all [])
+  editsFrom (suc turns) place =
+      if (ltb place (length list))
+      (listedBy (changeOf byte n (drop place list)) place (λ c. onto place (editsFrom turns (place + c .size))))
+      (all [])
+
+  -- "a 4,097th edit begins" is refused
+  unfoldable pub editsOf : Listed
+  editsOf = editsFrom 4096 0
+
+-- the number of edits, k counted before
+abbrev pub told : ℕ → Listed → Edits
+told k (all l) = edits.Count (k + length l)
+told k (malformed p) = edits.Malformed p
+told k (badName p) = edits.BadName p
+told k (tooMany p) = edits.TooMany p
+
+abbrev pub isWhole : Listed → Bool
+isWhole (all l) = true
+isWhole (malformed p) = false
+isWhole (badName p) = false
+isWhole (tooMany p) = false
+
+abbrev pub placesOf : Listed → List ℕ
+placesOf (all l) = l
+placesOf (malformed p) = []
+placesOf (badName p) = []
+placesOf (tooMany p) = []
+
+-- ---- the index: "its first entries hold the edits' places in the list by name order, equal names in list order"
+
+abbrev pub inOrder : List ℕ → List ℕ → List ℕ
+inOrder list places = sorted (comesFirst Edit list) places
+
+-- "11 tells the second place of the first equal pair"
+abbrev pub twinsBy : ℕ → Twin → Prepared
+twinsBy k (twin.At place) = Twins place
+twinsBy k twin.Nothing = Ready k
+
+unfoldable pub twinsOf : List ℕ → ℕ → List ℕ → Prepared
+twinsOf list k index = twinsBy k (firstTwin (nameOf Edit list) index)
+
+abbrev pub preparedBy : List ℕ → ℕ → Listed → Prepared
+preparedBy list room (all l) = if (ltb room (length l)) ShortIndex (twinsOf list (length l) (inOrder list l))
+preparedBy list room (malformed p) = Malformed p
+preparedBy list room (badName p) = BadName p
+preparedBy list room (tooMany p) = TooMany p
+
+unfoldable pub preparedOf : Classes → ℕ → List ℕ → ℕ → Prepared
+preparedOf byte n list room = if (overLimit (length list)) TooLarge (preparedBy list room (editsOf byte n list))
+
+-- "before that it is unchanged; entries behind are never touched"
+abbrev pub indexBy : List ℕ → List ℕ → Listed → List ℕ
+indexBy list index (all l) = if (ltb (length index) (length l)) index (inOrder list l ++ drop (length l) index)
+indexBy list index (malformed p) = index
+indexBy list index (badName p) = index
+indexBy list index (tooMany p) = index
+
+unfoldable pub indexAfter : Classes → ℕ → List ℕ → List ℕ → List ℕ
+indexAfter byte n list index = if (overLimit (length list)) index (indexBy list index (editsOf byte n list))
+
+-- the paper's number for each case
+abbrev pub preparedNumber : Prepared → ℕ
+preparedNumber (Ready k) = 0
+preparedNumber (Malformed p) = 7
+preparedNumber (BadName p) = 8
+preparedNumber (TooMany p) = 9
+preparedNumber ShortIndex = 10
+preparedNumber (Twins p) = 11
+preparedNumber TooLarge = 17

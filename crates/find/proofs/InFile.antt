@@ -1,0 +1,35 @@
+-- Found exactly, and listed exactly, behind the header of a file that passes the check.
+use mathlib.Core.Path.{_≡_, sym, ap, _∙_}
+use mathlib.Core.Bool.{true}
+use mathlib.Core.List.{List}
+use Prim.Native.Nat.{ℕ, _<_}
+use lib.ListN.{drop}
+use Rattle.parse.specs.Class.{paper}
+use Rattle.name.specs.Name.{validName}
+use Rattle.decode.specs.declared.header.Header.{Header}
+use Rattle.decode.specs.declared.header.Opened.the-variants as opened
+use Rattle.decode.specs.Header.{headerOf}
+use Rattle.iter.specs.declared.check.Verdict.the-variants as verdict
+use Rattle.iter.specs.Items.{items}
+use Rattle.iter.specs.Check.{checkOf}
+use Rattle.iter.specs.CheckMeans.{Body}
+use Rattle.iter.specs.Passes.{Passes}
+use Rattle.iter.proofs.CheckMeans.{check-means}
+use Rattle.find.specs.Present.{FoundExactly, ListsExactly, InChecked}
+use Rattle.find.proofs.Found.{found-exactly}
+use Rattle.find.proofs.Lists.{lists-exactly}
+
+body-passes : (n : ℕ) (file : List ℕ) (count : ℕ) (h : Header) → checkOf paper n file ≡ verdict.Clean count → headerOf paper file ≡ opened.Header h
+    → Passes n (items paper n (drop (h .body) file)) count
+body-passes n file count h e o =
+    let b = check-means paper n file (verdict.Clean count) .0 e in
+    let same : b .header ≡ h = cc (b .reads) in
+    rw same at (b .holds)
+
+pub found-in-file : (n : ℕ) → 0 < n → (file name : List ℕ) → validName paper name ≡ true → InChecked n file (λ body. FoundExactly n body name)
+found-in-file n some file name valid =
+    record { behind = λ count h e o. found-exactly n some (drop (h .body) file) count (body-passes n file count h e o) name valid }
+
+pub lists-in-file : (n : ℕ) → 0 < n → (file prefix : List ℕ) → InChecked n file (λ body. ListsExactly n body prefix)
+lists-in-file n some file prefix =
+    record { behind = λ count h e o. lists-exactly n some (drop (h .body) file) count (body-passes n file count h e o) prefix }

@@ -1,0 +1,105 @@
+-- "In a checked file it lists exactly the records with the prefix, in order."
+use mathlib.Core.Path.{_≡_, refl, sym, ap, _∙_}
+use mathlib.Core.Bool.{Bool, true, false, and-eq-true-iff}
+use mathlib.Core.List.{List, [], _∷_, _++_, append-assoc, append-nil}
+use Prim.Native.Nat.{ℕ, suc, _+_, _<_}
+use native.Mathlib.Nat.{add-zero}
+use native.Mathlib.Omega.{arith}
+use lib.Dec.{ltb}
+use lib.ListN.{getD, length, drop, length-append, List·getD-eq-default}
+use borrow.Author.Tests.{ltb-true, ltb-false, ne-eqb}
+use Rattle.parse.specs.declared.order.Order.the-variants.{Less}
+use Rattle.parse.specs.Class.{paper, isHex}
+use Rattle.parse.specs.Order.{orderOf}
+use Rattle.decode.specs.Record.{recordOf}
+use Rattle.decode.proofs.Headers.{no-hash}
+use Rattle.iter.specs.declared.start.Start.the-variants as start
+use Rattle.iter.specs.Items.{Item, items, bytesOf, nameOf}
+use Rattle.iter.specs.Passes.{isGood, allGood, Passes}
+use Rattle.iter.specs.Stands.{Stands}
+use Rattle.iter.specs.Start.{firstItem, startOf}
+use Rattle.iter.proofs.Each.{each}
+use Rattle.iter.proofs.Items.{items-step, tile}
+use Rattle.find.specs.declared.listing.Listing.the-variants.{From}
+use Rattle.find.specs.Search.{searchOf}
+use Rattle.find.specs.Listing.{placeOf, listingFrom, listingOf}
+use Rattle.find.specs.Present.{withPrefix, ListsExactly}
+use Rattle.find.proofs.Checked.{Checked, checked}
+use Rattle.find.proofs.Cut.{Smaller, Cut, here, none, cut}
+use Rattle.find.proofs.Leading.{leading, leading-all, none-before, none-leading}
+use Rattle.find.proofs.RecordLines.{first-hex}
+use Rattle.find.proofs.Rest.{bytes-append, items-from, good-from, up-from}
+use Rattle.find.proofs.Walk.{walk-leads}
+
+-- ---- the start: records begin with hex digits, so the `#` rule does nothing
+
+module _ (n : ℕ) (pos : 0 < n) (s : List ℕ) (good : allGood (items paper n s) ≡ true) where
+  first-byte : getD s 0 0 ≡ 35 → ⊥
+  unfolding isHex
+  first-byte e = go (ltb 0 (length s)) refl
+    where
+      go : (t : Bool) → ltb 0 (length s) ≡ t → ⊥
+      go false t = let z : getD s 0 0 ≡ 0 = List·getD-eq-default s 0 (ltb-false 0 (length s) t) in omega arith
+      go true t =
+          let first : isGood (recordOf paper n s) ≡ true = and-eq-true-iff _ _ .0 (rw (items-step paper n s (ltb-true 0 (length s) t)) at good) .0 in
+          let hex : isHex 35 ≡ true = rw e at (first-hex n pos s first) in
+          let z : _≡_ {A = ℕ} 0 1 = cc in
+          omega arith
+
+  starts-at : startOf paper s ≡ start.At 0 1
+  unfolding startOf firstItem
+  starts-at = rw (no-hash paper s first-byte, ne-eqb (getD s 0 0) 35 first-byte)
+
+from-place : (s : List ℕ) (place : ℕ) → startOf paper (drop place s) ≡ start.At 0 1 → listingFrom paper s place ≡ From place 1
+unfolding listingFrom
+from-place s place e = rw (e, add-zero place)
+
+-- ---- the walk
+
+-- from what is said by places to the items themselves
+each-smaller : {n : ℕ} {s prefix : List ℕ} (before rest : List Item) → items paper n s ≡ before ++ rest → Smaller n s prefix (length (bytesOf before))
+    → (x : List Item) (i : Item) (y : List Item) → before ≡ x ++ i ∷ y → orderOf (nameOf n i) prefix ≡ Less
+each-smaller {n} {s} before rest e h x i y q =
+    let p : items paper n s ≡ x ++ i ∷ (y ++ rest) = e ∙ rw q (append-assoc x (i ∷ y) rest) in
+    let stands : Stands paper n s (length (bytesOf x)) i = record { before = x; after = y ++ rest; all = p; here = refl } in
+    let len : length (bytesOf before) ≡ length (bytesOf x) + length (i .bytes ++ bytesOf y) = rw q (bytes-append x (i ∷ y)) in
+    h (length (bytesOf x)) i stands
+    (omega (arith, len, length-append (i .bytes) (bytesOf y), each n s (length (bytesOf x)) i stands .forward))
+
+module _ {n : ℕ} {s : List ℕ} (c : Checked n s) (prefix : List ℕ) where
+  -- from a place on stand records only, and the leading ones are those of the whole body with the prefix
+  record Listed (place : ℕ) : Type 0 where
+    rest : allGood (items paper n (drop place s)) ≡ true
+    leads : leading n prefix (items paper n (drop place s)) ≡ withPrefix n prefix (items paper n s)
+
+  listed : {place : ℕ} → Cut n s prefix place → Listed place
+  listed (here {it} x smaller h) =
+      let lower : Smaller n s prefix (length (bytesOf (x .before))) = rw (x .here) smaller in
+      record {
+        rest = good-from paper n s x (c .good);
+        leads =
+            ap (leading n prefix) (items-from paper n s x) ∙ leading-all n prefix it (x .after) h (up-from paper n s x (c .up))
+            ∙ sym (none-before n prefix (x .before) (it ∷ x .after) (each-smaller (x .before) (it ∷ x .after) (x .all) lower))
+            ∙ ap (withPrefix n prefix) (sym (x .all));
+      }
+  listed (none z smaller) =
+      let all = items paper n s in
+      let lower : Smaller n s prefix (length (bytesOf all)) = rw (tile paper n s) smaller in
+      let all-smaller = each-smaller all [] (sym (append-nil all)) lower in
+      rw z
+      (record {
+        rest = c .good;
+        leads = none-leading n prefix all all-smaller ∙ sym (none-before n prefix all [] all-smaller) ∙ ap (withPrefix n prefix) (append-nil all);
+      })
+
+pub lists-exactly : (n : ℕ) → 0 < n → (s : List ℕ) (count : ℕ) → Passes n (items paper n s) count → (prefix : List ℕ) → ListsExactly n s prefix
+unfolding listingOf
+lists-exactly n pos s count passes prefix =
+    let c : Checked n s = checked pos passes in
+    let place = placeOf (searchOf paper n s prefix) in
+    let l : Listed c prefix place = listed c prefix (cut c prefix) in
+    record {
+      place = place;
+      start = from-place s place (starts-at n pos (drop place s) (l .rest));
+      all = walk-leads n prefix s (suc (length s)) place (omega arith) (l .rest) ∙ l .leads;
+    }

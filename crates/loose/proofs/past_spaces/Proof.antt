@@ -1,0 +1,59 @@
+-- `loose::past_spaces` meets its contract: the spaces from i on end where the spaces from the start on end.
+use mathlib.Core.Path.{_≡_, refl, sym, _∙_}
+use Prim.Native.Nat.{_+_, _-_}
+use native.Mathlib.Omega.{arith}
+use borrow.Author.Needs.{needs}
+use borrow.Author.Tests.{eq-eqb, ne-eqb}
+use lib.ListN.{length, drop}
+use Rattle.parse.specs.Run.{span}
+use Rattle.parse.proofs.Runs.{span-end, span-stop, span-go}
+use Rattle.loose.specs.Loose.{isSpace}
+use Rattle.loose.proofs.past_spaces.Statement.{statement}
+use Rattle.loose.proofs.past_spaces.Tie as tie
+
+abbrev Inv-loop : tie.InvT-loop
+Inv-loop s at i₀ i = i + span isSpace (drop i s) ≡ at + span isSpace (drop at s)
+
+abbrev μ-loop : tie.MeasureT-loop
+μ-loop s at i₀ i = length s - i
+
+loop-holds : tie.Need-loop-holds Inv-loop μ-loop
+loop-holds c = refl
+
+shared-slice-read-if1 : tie.Need-shared-slice-read-if1 Inv-loop μ-loop
+shared-slice-read-if1 c = search needs
+
+returns : tie.Need-returns Inv-loop μ-loop
+returns c =
+    let l = c .before .before .before in
+    omega (arith, span-stop isSpace (l .before .args .s .now) (l .loop .i) (search needs) (ne-eqb _ _ (c .if1 .taken)), l .loop .inv)
+
+add-i : tie.Need-add-i Inv-loop μ-loop
+add-i c = search needs
+
+loop-less : tie.Need-loop-less Inv-loop μ-loop
+loop-less c = search needs
+
+loop-again : tie.Need-loop-again Inv-loop μ-loop
+loop-again c =
+    let l = c .before .before .before in
+    sym (span-go isSpace (l .before .args .s .now) (l .loop .i) (search needs) (eq-eqb _ _ (c .if1 .left))) ∙ l .loop .inv
+
+returns-2 : tie.Need-returns-2 Inv-loop μ-loop
+returns-2 c =
+    let l = c .before in
+    omega (arith, span-end isSpace (l .before .args .s .now) (l .loop .i) (c .loop-test .left), l .loop .inv)
+
+pub past-spaces-spec : {M : Type 1} → statement M
+past-spaces-spec =
+    tie.close
+    (tie.spec
+    Inv-loop
+    μ-loop
+    loop-holds
+    shared-slice-read-if1
+    returns
+    add-i
+    loop-less
+    loop-again
+    returns-2)
