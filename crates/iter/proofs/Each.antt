@@ -20,9 +20,9 @@ use Rattle.decode.specs.Record.{recordOf}
 use Rattle.decode.specs.Start.{lineStart}
 use Rattle.decode.proofs.Starts.{line-stop}
 use Rattle.iter.specs.Items.{Item, coveredBy, sizeOf, itemOf, items, bytesOf}
-use Rattle.iter.specs.Stands.{Stands, Lines, one, two, Each, nextPlace, Walks}
+use Rattle.iter.specs.Stands.{Stands, Lines, one, two, Each, nextPlace, Walks, Tiled}
 use Rattle.iter.specs.Step.{stepBy, stepOf}
-use Rattle.iter.proofs.Items.{items-nil, items-step, some-item, size-le, size-some}
+use Rattle.iter.proofs.Items.{items-nil, items-step, some-item, size-le, size-some, tile}
 use Rattle.iter.proofs.Resync.{Covered, line, pair, covered}
 
 -- ---- a line with bytes behind it ends with a line feed, so that a line begins behind it
@@ -132,3 +132,6 @@ walks byte n s place item =
       forward = λ h. omega (arith, next-place byte n s place item h, size-some byte n (drop place s) (omega arith));
       ends = λ h. rw (drop-of-length-le s h, items-nil byte n);
     }
+
+pub tiled : (byte : Classes) (n : ℕ) (s : List ℕ) → Tiled byte n s
+tiled byte n s = record { all = tile byte n s }

@@ -12,3 +12,4 @@ pub mod Resync
 pub mod Steps
 pub mod TextKept
 pub mod Turns
+pub mod Within

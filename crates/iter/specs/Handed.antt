@@ -1,4 +1,5 @@
 -- What an iteration hands out: ids and names of records, numbers and texts of errors.
+use mathlib.Core.Path.{_≡_}
 use mathlib.Core.List.{List, [], _∷_}
 use Prim.Native.Nat.{ℕ, zero, suc, _-_}
 use lib.ListN.{length, take, drop}
@@ -26,3 +27,16 @@ handedBy n number bytes (Bad f) = error number (take (length bytes - 1) bytes)
 abbrev pub handed : ℕ → ℕ → List Item → List Handed
 handed n number [] = []
 handed n number (i ∷ l) = handedBy n number (i .bytes) (i .what) ∷ handed n (more number) l
+
+-- ---- what is handed out is parts of the item's bytes
+
+-- the bytes x stand in the bytes y
+pub record PartOf (y x : List ℕ) : Type 0 where
+  pub from : ℕ
+  pub len : ℕ
+  pub is : x ≡ take len (drop from y)
+
+abbrev pub Within : List ℕ → Handed → Type 0
+Within bytes (good id name) = PartOf bytes id × PartOf bytes name
+Within bytes (peeled id name object) = PartOf bytes id × PartOf bytes name × PartOf bytes object
+Within bytes (error number text) = PartOf bytes text

@@ -13,6 +13,10 @@ use Rattle.iter.specs.declared.step.Step.the-variants.{End, Good, Error}
 use Rattle.iter.specs.Items.{Item, itemOf, items, bytesOf}
 use Rattle.iter.specs.Step.{stepOf}
 
+-- "Without a prefix every byte behind the header lies in exactly one item": the items' bytes, one after another, are all the bytes
+pub record Tiled (byte : Classes) (n : ℕ) (s : List ℕ) : Type 0 where
+  pub all : bytesOf (items byte n s) ≡ s
+
 -- in the body s the item stands at a place: it is one of the items, and the bytes of those before it reach to the place
 pub record Stands (byte : Classes) (n : ℕ) (s : List ℕ) (place : ℕ) (it : Item) : Type 0 where
   pub before : List Item
