@@ -2,3 +2,4 @@
 pub mod check;
 pub mod start;
 pub mod step;
+pub mod value;
