@@ -1,4 +1,5 @@
 pub mod Changes
+pub mod Examples
 pub mod Filling
 pub mod Lists
 pub mod Ordering

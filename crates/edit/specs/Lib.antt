@@ -1,2 +1,3 @@
 pub mod Change
+pub mod Examples
 pub mod List
