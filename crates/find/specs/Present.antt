@@ -51,7 +51,8 @@ pub record InChecked (n : ℕ) (file : List ℕ) (P : List ℕ → Type 0) : Typ
 
 -- ---- "In a checked file it lists exactly the records with the prefix, in order."
 
--- the items that steps with a prefix go through, from a place on
+-- the items that steps with a prefix go through, from a place on. The number that a step is given changes only the number that an error
+-- tells, so each step here is given 1
 abbrev pub stepped : Step → Item → List Item → List Item
 stepped (step.End next item) i l = []
 stepped (step.Good r next item) i l = i ∷ l
