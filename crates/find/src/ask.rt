@@ -7,7 +7,6 @@ use decode::reference::Fault;
 use decode::reference::Reading;
 use decode::reference::Record;
 use parse::limit::Admission;
-use parse::order::Order;
 
 pub enum Told {
     // A record of the file has the name: where it starts.
@@ -81,20 +80,11 @@ pub fn ask_body(t: &[u8; 256], n: usize, file: &[u8], body: usize, name: &[u8]) 
                 if parse::prefix::is_same(here, name) {
                     return Told::Charted { place, found };
                 }
-                match parse::order::compare(last, here) {
-                    Order::Less => {}
-                    Order::Equal => {
-                        return verdict_unless(
-                            first_named(t, n, file, place, name),
-                            Told::Unsorted(place),
-                        );
-                    }
-                    Order::Greater => {
-                        return verdict_unless(
-                            first_named(t, n, file, place, name),
-                            Told::Unsorted(place),
-                        );
-                    }
+                if !parse::order::is_less(last, here) {
+                    return verdict_unless(
+                        first_named(t, n, file, place, name),
+                        Told::Unsorted(place),
+                    );
                 }
                 last = here;
                 place += found.size;

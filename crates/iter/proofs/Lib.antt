@@ -6,6 +6,7 @@ pub mod Each
 pub mod Examples
 pub mod Front
 pub mod HeaderKept
+pub mod ItemRead
 pub mod Items
 pub mod Passes
 pub mod Resync

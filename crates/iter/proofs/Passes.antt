@@ -9,14 +9,14 @@ use native.Mathlib.Omega.{arith}
 use lib.ListN.{length, length-append}
 use Rattle.parse.specs.declared.order.Order.{Order}
 use Rattle.parse.specs.declared.order.Order.the-variants.{Less, Equal, Greater}
-use Rattle.parse.specs.Order.{orderOf}
+use Rattle.parse.specs.Order.{orderOf, isLess}
 use Rattle.decode.specs.declared.reference.Fault.{Fault}
 use Rattle.decode.specs.declared.reference.Reading.{Reading}
 use Rattle.decode.specs.declared.reference.Reading.the-variants.{Good, Bad}
 use Rattle.iter.specs.declared.check.Verdict.{Verdict}
 use Rattle.iter.specs.declared.check.Verdict.the-variants.{Clean, BadHeader, BadRecord, Unsorted}
 use Rattle.iter.specs.Items.{Item, bytesOf, nameOf}
-use Rattle.iter.specs.Check.{isLess, orElse, judge}
+use Rattle.iter.specs.Check.{orElse, judge}
 use Rattle.iter.specs.Passes.{isGood, allGood, ascending, Passes, lastName, FirstFault, FirstError, FirstUnsorted}
 
 -- ---- one item: it stops the check, or the check goes on

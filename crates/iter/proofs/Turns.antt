@@ -9,7 +9,7 @@ use lib.Seq.{drop-drop, length-take-le}
 use Rattle.parse.specs.Choice.{if}
 use Rattle.parse.specs.Class.{Classes}
 use Rattle.parse.specs.Line.{lineLen}
-use Rattle.parse.specs.Order.{orderOf}
+use Rattle.parse.specs.Order.{smaller}
 use Rattle.parse.proofs.Slices.{part-of-front}
 use Rattle.decode.specs.declared.reference.Fault.{Fault}
 use Rattle.decode.specs.declared.reference.Record.{Record}
@@ -20,7 +20,7 @@ use Rattle.decode.proofs.Records.{Fits, fits}
 use Rattle.iter.specs.declared.check.Verdict.{Verdict}
 use Rattle.iter.specs.declared.check.Verdict.the-variants.{Clean, BadRecord, Unsorted}
 use Rattle.iter.specs.Items.{Item, sizeOf, itemOf, items, nameIn, nameOf}
-use Rattle.iter.specs.Check.{isLess, orElse, judge}
+use Rattle.iter.specs.Check.{orElse, judge}
 use Rattle.iter.proofs.Items.{size-good, size-le, items-nil, items-step}
 
 -- the name of the item at the front is that part of all the bytes
@@ -86,12 +86,12 @@ module _ (byte : Classes) (n : ℕ) (file : List ℕ) (place count : ℕ) (last 
       name = take (r .name) (drop (n + 1) (drop place file))
 
       turn : judge n place count last (items byte n (drop place file))
-          ≡ if (isLess (orderOf last name)) (judge n (place + r .size) (suc count) name (items byte n (drop (place + r .size) file))) (Unsorted place)
+          ≡ if (smaller last name) (judge n (place + r .size) (suc count) name (items byte n (drop (place + r .size) file))) (Unsorted place)
       turn = let h = head-good byte n file place r e inside in rw (h .all, h .is, h .name, h .long)
 
-      pub turn-unsorted : isLess (orderOf last name) ≡ false → judge n place count last (items byte n (drop place file)) ≡ Unsorted place
+      pub turn-unsorted : smaller last name ≡ false → judge n place count last (items byte n (drop place file)) ≡ Unsorted place
       turn-unsorted l = turn ∙ rw l
 
-      pub turn-good : isLess (orderOf last name) ≡ true
+      pub turn-good : smaller last name ≡ true
           → judge n place count last (items byte n (drop place file)) ≡ judge n (place + r .size) (suc count) name (items byte n (drop (place + r .size) file))
       turn-good l = turn ∙ rw l

@@ -1,14 +1,11 @@
 -- The check of a whole file.
-use mathlib.Core.Bool.{Bool, true, false}
 use mathlib.Core.List.{List, [], _∷_}
 use Prim.Native.Nat.{ℕ, suc, _+_}
 use lib.ListN.{length, drop}
-use Rattle.parse.specs.declared.order.Order.{Order}
-use Rattle.parse.specs.declared.order.Order.the-variants.{Less, Equal, Greater}
 use Rattle.parse.specs.Choice.{if}
 use Rattle.parse.specs.Class.{Classes, paper}
 use Rattle.parse.specs.Limit.{admission, admit}
-use Rattle.parse.specs.Order.{orderOf}
+use Rattle.parse.specs.Order.{smaller}
 use Rattle.decode.specs.declared.header.Opened.{Opened}
 use Rattle.decode.specs.declared.header.Opened.the-variants.{Header, Unreadable}
 use Rattle.decode.specs.declared.reference.Reading.{Reading}
@@ -20,11 +17,6 @@ use Rattle.iter.specs.declared.check.Verdict.the-variants.{Clean, BadHea
 use Rattle.iter.specs.declared.check.CheckAnswer.{CheckAnswer}
 use Rattle.iter.specs.declared.check.CheckAnswer.the-variants.{Done, UnknownKind, TooLarge}
 use Rattle.iter.specs.Items.{Item, items, nameOf}
-
-abbrev pub isLess : Order → Bool
-isLess Less = true
-isLess Equal = false
-isLess Greater = false
 
 -- what an item comes to: an error is answered with its place, a record goes by its name
 abbrev pub orElse : Reading → ℕ → Verdict → Verdict
@@ -38,7 +30,7 @@ abbrev pub judge : ℕ → ℕ → ℕ → List ℕ → List Item → Verdict
 judge n place count last [] = Clean count
 judge n place count last (i ∷ l) =
     orElse (i .what) place
-    (if (isLess (orderOf last (nameOf n i)))
+    (if (smaller last (nameOf n i))
     (judge n (place + length (i .bytes)) (suc count) (nameOf n i) l)
     (Unsorted place))
 

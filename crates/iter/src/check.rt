@@ -6,7 +6,6 @@ use decode::header::Opened;
 use decode::reference::Fault;
 use decode::reference::Reading;
 use parse::limit::Admission;
-use parse::order::Order;
 
 pub enum Verdict {
     // The file passes; so many records.
@@ -63,14 +62,8 @@ pub fn check_body(t: &[u8; 256], n: usize, file: &[u8], body: usize) -> Verdict
             }
             Reading::Good(found) => {
                 let name = decode::reference::name_of(rest, n, found);
-                match parse::order::compare(last, name) {
-                    Order::Less => {}
-                    Order::Equal => {
-                        return Verdict::Unsorted(place);
-                    }
-                    Order::Greater => {
-                        return Verdict::Unsorted(place);
-                    }
+                if !parse::order::is_less(last, name) {
+                    return Verdict::Unsorted(place);
                 }
                 last = name;
                 count += 1;

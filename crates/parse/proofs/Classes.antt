@@ -16,39 +16,19 @@ module _ (a b c : Bool) where
   abbrev sum : ℕ
   sum = bit a + 2 * bit b + 4 * bit c
 
-first : (a b c : Bool) → eqb (sum a b c % 2) 1 ≡ a
-first true true true = refl
-first true true false = refl
-first true false true = refl
-first true false false = refl
-first false true true = refl
-first false true false = refl
-first false false true = refl
-first false false false = refl
-
-second : (a b c : Bool) → eqb (sum a b c / 2 % 2) 1 ≡ b
-second true true true = refl
-second true true false = refl
-second true false true = refl
-second true false false = refl
-second false true true = refl
-second false true false = refl
-second false false true = refl
-second false false false = refl
-
-third : (a b c : Bool) → eqb (sum a b c / 4 % 2) 1 ≡ c
-third true true true = refl
-third true true false = refl
-third true false true = refl
-third true false false = refl
-third false true true = refl
-third false true false = refl
-third false false true = refl
-third false false false = refl
+read-back : (a b c : Bool) → (eqb (sum a b c % 2) 1 ≡ a) × (eqb (sum a b c / 2 % 2) 1 ≡ b) × (eqb (sum a b c / 4 % 2) 1 ≡ c)
+read-back true true true = (refl, refl, refl)
+read-back true true false = (refl, refl, refl)
+read-back true false true = (refl, refl, refl)
+read-back true false false = (refl, refl, refl)
+read-back false true true = (refl, refl, refl)
+read-back false true false = (refl, refl, refl)
+read-back false false true = (refl, refl, refl)
+read-back false false false = (refl, refl, refl)
 
 -- ---- the entry at each number
 
-value-at : (f : ℕ → ℕ) (i n k : ℕ) → k < n → getD (valuesFrom f i n) k 0 ≡ f (i + k)
+pub value-at : (f : ℕ → ℕ) (i n k : ℕ) → k < n → getD (valuesFrom f i n) k 0 ≡ f (i + k)
 value-at f i zero k h = absurd (omega arith)
 value-at f i (suc n) zero h = ap f (sym (add-zero i))
 value-at f i (suc n) (suc k) h = value-at f (suc i) n k (omega arith) ∙ ap f (suc-add i k ∙ sym (add-suc i k))
@@ -96,13 +76,13 @@ unfolding classOf
 table-classes = λ i. record { hex = h i; forbidden = f i; lineEnd = l i }
   where
     h : (λ (b : ℕ). eqb (getD classTable b 0 % 2) 1) ≡ isHex
-    h = fun-ext (λ b. ap (λ (x : ℕ). eqb (x % 2) 1) (entry b) ∙ first (isHex b) (isForbidden b) (isLineEnd b))
+    h = fun-ext (λ b. ap (λ (x : ℕ). eqb (x % 2) 1) (entry b) ∙ read-back (isHex b) (isForbidden b) (isLineEnd b) .0)
 
     f : (λ (b : ℕ). eqb (getD classTable b 0 / 2 % 2) 1) ≡ isForbidden
-    f = fun-ext (λ b. ap (λ (x : ℕ). eqb (x / 2 % 2) 1) (entry b) ∙ second (isHex b) (isForbidden b) (isLineEnd b))
+    f = fun-ext (λ b. ap (λ (x : ℕ). eqb (x / 2 % 2) 1) (entry b) ∙ read-back (isHex b) (isForbidden b) (isLineEnd b) .1)
 
     l : (λ (b : ℕ). eqb (getD classTable b 0 / 4 % 2) 1) ≡ isLineEnd
-    l = fun-ext (λ b. ap (λ (x : ℕ). eqb (x / 4 % 2) 1) (entry b) ∙ third (isHex b) (isForbidden b) (isLineEnd b))
+    l = fun-ext (λ b. ap (λ (x : ℕ). eqb (x / 4 % 2) 1) (entry b) ∙ read-back (isHex b) (isForbidden b) (isLineEnd b) .2)
 
 -- what is said of a table's classes is said of the paper's, once the table is the one
 pub by-paper {ℓ} : {A : Type ℓ} (f : Classes → A) {t : List ℕ} → t ≡ classTable → f (classesOf t) ≡ f paper

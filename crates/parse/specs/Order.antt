@@ -1,4 +1,5 @@
 -- The order of byte strings.
+use mathlib.Core.Bool.{Bool, true, false}
 use mathlib.Core.List.{List, [], _∷_}
 use Prim.Native.Nat.{ℕ}
 use lib.Dec.{ltb}
@@ -12,3 +13,11 @@ orderOf [] [] = Equal
 orderOf [] (y ∷ b) = Less
 orderOf (x ∷ a) [] = Greater
 orderOf (x ∷ a) (y ∷ b) = if (ltb x y) Less (if (ltb y x) Greater (orderOf a b))
+
+abbrev pub isLess : Order → Bool
+isLess Less = true
+isLess Equal = false
+isLess Greater = false
+
+abbrev pub smaller : List ℕ → List ℕ → Bool
+smaller a b = isLess (orderOf a b)

@@ -3,7 +3,7 @@ ghost use mathlib.Core.Path.{_≡_};
 ghost use mathlib.Core.Bool.{false};
 ghost use Prim.Native.Nat.{ℕ, _+_, _≤_, _<_};
 ghost use lib.ListN.{length, getD, drop};
-ghost use Rattle.parse.specs.Order.{orderOf};
+ghost use Rattle.parse.specs.Order.{orderOf, smaller};
 
 pub enum Order {
     Less,
@@ -33,6 +33,17 @@ pub fn compare(a: &[u8], b: &[u8]) -> Order
         i += 16;
     }
     by_one(a, b, i)
+}
+
+// Whether the first is the smaller one.
+pub fn is_less(a: &[u8], b: &[u8]) -> bool
+    ensures { λ r. ⌜ r ≡ smaller (now (a .entry)) (now (b .entry)) ⌝ }
+{
+    match compare(a, b) {
+        Order::Less => true,
+        Order::Equal => false,
+        Order::Greater => false,
+    }
 }
 
 // Whether two strings differ in the sixteen bytes from i on. With no early way out, so that it compiles to vector code.

@@ -6,10 +6,10 @@ use Prim.Native.Nat.{ℕ, _<_}
 use native.Mathlib.Omega.{arith}
 use lib.Dec.{ltb}
 use borrow.Author.Tests.{ltb-true, ltb-false, lt-ltb, le-ltb}
-use Rattle.parse.specs.Order.{orderOf}
+use Rattle.parse.specs.Order.{orderOf, isLess}
 use Rattle.parse.specs.declared.order.Order.{Order}
 use Rattle.parse.specs.declared.order.Order.the-variants.{Less, Equal, Greater}
-use Rattle.sort.specs.Order.{isLess, isEqual, before}
+use Rattle.sort.specs.Order.{isEqual, before}
 use Rattle.sort.specs.Laws.{StrictOrder}
 use Rattle.sort.proofs.Strings.{order-self, order-equal, turned, order-turned, order-trans}
 

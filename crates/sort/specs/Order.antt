@@ -5,22 +5,14 @@ use Prim.Native.Nat.{ℕ}
 use lib.Dec.{ltb}
 use Rattle.parse.specs.declared.order.Order.{Order}
 use Rattle.parse.specs.declared.order.Order.the-variants.{Less, Equal, Greater}
-use Rattle.parse.specs.Order.{orderOf}
+use Rattle.parse.specs.Order.{orderOf, smaller}
 use Rattle.sort.specs.declared.name.Layout.{Layout}
 use Rattle.sort.specs.Name.{nameOf}
-
-abbrev pub isLess : Order → Bool
-isLess Less = true
-isLess Equal = false
-isLess Greater = false
 
 abbrev pub isEqual : Order → Bool
 isEqual Less = false
 isEqual Equal = true
 isEqual Greater = false
-
-abbrev pub smaller : List ℕ → List ℕ → Bool
-smaller a b = isLess (orderOf a b)
 
 abbrev pub same : List ℕ → List ℕ → Bool
 same a b = isEqual (orderOf a b)

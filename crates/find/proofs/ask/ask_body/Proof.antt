@@ -1,17 +1,19 @@
 -- `find::ask::ask_body` meets its contract: what the items from the place reached on come to decides the whole.
 use mathlib.Core.Path.{_≡_, refl, sym, ap, _∙_}
-use Prim.Native.Nat.{ℕ, suc, _+_, _-_, _≤_}
+use mathlib.Core.List.{List}
+use Prim.Native.Nat.{ℕ, suc, _-_}
 use native.Mathlib.Omega.{arith}
-use lib.ListN.{length, take, drop}
+use lib.ListN.{length}
+use borrow.Author.Tests.{not-true, not-false}
 use Rattle.parse.specs.Class.{classesOf}
-use Rattle.parse.specs.Order.{orderOf}
+use Rattle.parse.specs.Order.{smaller}
 use Rattle.parse.specs.Prefix.{same}
-use Rattle.parse.proofs.Slices.{rest-is}
-use Rattle.decode.specs.Record.{recordOf}
-use Rattle.iter.specs.Check.{isLess, judgeBody}
-use Rattle.iter.proofs.Turns.{next-inside}
+use Rattle.decode.specs.declared.reference.Reading.{Reading}
+use Rattle.decode.specs.declared.reference.Reading.the-variants.{Good}
+use Rattle.iter.specs.Check.{judgeBody}
 use Rattle.find.specs.declared.ask.Told.the-variants.{BadRecord, Unsorted}
 use Rattle.find.specs.Ask.{orVerdict, askBody}
+use Rattle.iter.proofs.ItemRead.{Reads, reads, told, goes-on, named, named-is}
 use Rattle.find.proofs.Seeking.{askFrom, ask-end, ask-bad, ask-found, ask-unsorted, ask-on}
 use borrow.Author.Needs.{needs}
 use Rattle.find.proofs.ask.ask_body.Statement.{statement}
@@ -57,16 +59,52 @@ first-named-requires c κs = search needs
 verdict-unless-requires : tie.Need-verdict-unless-requires Inv-loop μ-loop
 verdict-unless-requires c κs = search needs
 
+-- ---- what is known at each place of a turn
+
+-- what is read at the turn's place
+abbrev Read : tie.At-loop Inv-loop μ-loop → Reading → Type 0
+Read l what = let a = l .before .before .before .before .args in Reads (classesOf (a .t .now)) (a .n) (a .file .now) (l .loop .place) what
+
+abbrev name : tie.At-loop Inv-loop μ-loop → List ℕ
+name l = l .before .before .before .before .args .name .now
+
+module _ (k : tie.After-reference Inv-loop μ-loop) where
+  abbrev turn : tie.At-loop Inv-loop μ-loop
+  turn = k .before .before .before
+
+  item : Read turn (k .reference .result)
+  item = reads (search needs) (k .reference .ensures)
+
+-- it is a record, and its name is cut out
+module _ (m : tie.After-name-of Inv-loop μ-loop) where
+  abbrev its-turn : tie.At-loop Inv-loop μ-loop
+  its-turn = turn (m .before .before .before .before)
+
+  it : Read its-turn (Good (m .before .before .found .given .0 .0))
+  it = told (item (m .before .before .before .before)) (m .before .before .found .given .1)
+
+  name-is : m .name-of .result .now ≡ named it
+  name-is = named-is it (m .name-of .ensures)
+
+-- the name is held against the wanted one
+module _ (q : tie.After-is-same Inv-loop μ-loop) where
+  wanted-is : same (name (its-turn (q .before))) (named (it (q .before))) ≡ q .is-same .result
+  wanted-is = ap (same (name (its-turn (q .before)))) (sym (name-is (q .before))) ∙ sym (q .is-same .ensures)
+
+-- and against the one before
+module _ (o : tie.After-is-less Inv-loop μ-loop) where
+  abbrev cut : tie.After-name-of Inv-loop μ-loop
+  cut = o .before .before .before
+
+  order-is : smaller (its-turn cut .loop .last .now) (named (it cut)) ≡ o .is-less .result
+  order-is = ap (smaller (its-turn cut .loop .last .now)) (sym (name-is cut)) ∙ sym (o .is-less .ensures)
+
 returns : tie.Need-returns Inv-loop μ-loop
 returns c =
     let f = c .before .before .before in
-    let k = f .before .before in
-    let l = k .before .before .before in
-    let a = l .before .before .before .before .args in
-    let byte = classesOf (a .t .now) in
-    let read = ap (recordOf byte (a .n)) (sym (rest-is (a .file .now) (l .loop .place))) ∙ sym (k .reference .ensures) ∙ f .fault .given .1 in
+    let l = turn (f .before .before) in
     c .verdict-unless .ensures ∙ ap (λ w. orVerdict w (BadRecord (l .loop .place) (f .fault .given .0 .0))) (c .before .first-named .ensures)
-    ∙ sym (ask-bad byte (a .n) (a .file .now) (a .name .now) (l .loop .place) (l .loop .inv .0) (l .loop .last .now) (search needs) (f .fault .given .0 .0) read) ∙ l .loop .inv .1
+    ∙ sym (ask-bad (name l) (l .loop .inv .0) (l .loop .last .now) (told (item (f .before .before)) (f .fault .given .1))) ∙ l .loop .inv .1
 
 enum-known-found : tie.Need-enum-known-found Inv-loop μ-loop
 enum-known-found c = search needs
@@ -79,27 +117,12 @@ is-same-requires c κs = search needs
 
 returns-2 : tie.Need-returns-2 Inv-loop μ-loop
 returns-2 c =
-    let q = c .before in
-    let m = q .before in
-    let f = m .before .before in
-    let k = f .before .before in
-    let l = k .before .before .before in
-    let a = l .before .before .before .before .args in
-    let byte = classesOf (a .t .now) in
-    let rest = rest-is (a .file .now) (l .loop .place) in
-    let read = ap (recordOf byte (a .n)) (sym rest) ∙ sym (k .reference .ensures) ∙ f .found .given .1 in
-    let name = m .name-of .ensures ∙ ap (λ r. take (f .found .given .0 .0 .name) (drop (a .n + 1) r)) rest in
-    let is = ap (same (a .name .now)) (sym name) ∙ sym (q .is-same .ensures) ∙ c .if1 .taken in
-    sym (ask-found byte (a .n) (a .file .now) (a .name .now) (l .loop .place) (l .loop .inv .0) (l .loop .last .now) (search needs) (f .found .given .0 .0) read is) ∙ l .loop .inv .1
+    let m = c .before .before in
+    let l = its-turn m in
+    sym (ask-found (name l) (l .loop .inv .0) (l .loop .last .now) (it m) (wanted-is (c .before) ∙ c .if1 .taken)) ∙ l .loop .inv .1
 
-compare-requires : tie.Need-compare-requires Inv-loop μ-loop
-compare-requires c κs = search needs
-
-enum-told : tie.Need-enum-told Inv-loop μ-loop
-enum-told c = search needs
-
-enum-told-2 : tie.Need-enum-told-2 Inv-loop μ-loop
-enum-told-2 c = search needs
+is-less-requires : tie.Need-is-less-requires Inv-loop μ-loop
+is-less-requires c κs = search needs
 
 first-named-requires-2 : tie.Need-first-named-requires-2 Inv-loop μ-loop
 first-named-requires-2 c κs = search needs
@@ -109,98 +132,31 @@ verdict-unless-requires-2 c κs = search needs
 
 returns-3 : tie.Need-returns-3 Inv-loop μ-loop
 returns-3 c =
-    let o = c .before .before .before .before in
-    let q = o .before .before in
-    let m = q .before in
-    let f = m .before .before in
-    let k = f .before .before in
-    let l = k .before .before .before in
-    let a = l .before .before .before .before .args in
-    let byte = classesOf (a .t .now) in
-    let rest = rest-is (a .file .now) (l .loop .place) in
-    let read = ap (recordOf byte (a .n)) (sym rest) ∙ sym (k .reference .ensures) ∙ f .found .given .1 in
-    let name = m .name-of .ensures ∙ ap (λ r. take (f .found .given .0 .0 .name) (drop (a .n + 1) r)) rest in
-    let order = ap (orderOf (l .loop .last .now)) (sym name) ∙ sym (o .compare .ensures) ∙ c .before .before .enum-told2 .given .1 in
+    let o = c .before .before .before in
+    let l = its-turn (cut o) in
     c .verdict-unless2 .ensures ∙ ap (λ w. orVerdict w (Unsorted (l .loop .place))) (c .before .first-named2 .ensures)
-    ∙ sym (ask-unsorted byte (a .n) (a .file .now) (a .name .now) (l .loop .place) (l .loop .inv .0) (l .loop .last .now) (search needs) (f .found .given .0 .0) read (ap isLess order)) ∙ l .loop .inv .1
-
-enum-told-3 : tie.Need-enum-told-3 Inv-loop μ-loop
-enum-told-3 c = search needs
-
-first-named-requires-3 : tie.Need-first-named-requires-3 Inv-loop μ-loop
-first-named-requires-3 c κs = search needs
-
-verdict-unless-requires-3 : tie.Need-verdict-unless-requires-3 Inv-loop μ-loop
-verdict-unless-requires-3 c κs = search needs
-
-returns-4 : tie.Need-returns-4 Inv-loop μ-loop
-returns-4 c =
-    let o = c .before .before .before .before in
-    let q = o .before .before in
-    let m = q .before in
-    let f = m .before .before in
-    let k = f .before .before in
-    let l = k .before .before .before in
-    let a = l .before .before .before .before .args in
-    let byte = classesOf (a .t .now) in
-    let rest = rest-is (a .file .now) (l .loop .place) in
-    let read = ap (recordOf byte (a .n)) (sym rest) ∙ sym (k .reference .ensures) ∙ f .found .given .1 in
-    let name = m .name-of .ensures ∙ ap (λ r. take (f .found .given .0 .0 .name) (drop (a .n + 1) r)) rest in
-    let order = ap (orderOf (l .loop .last .now)) (sym name) ∙ sym (o .compare .ensures) ∙ c .before .before .enum-told3 .given .1 in
-    c .verdict-unless3 .ensures ∙ ap (λ w. orVerdict w (Unsorted (l .loop .place))) (c .before .first-named3 .ensures)
-    ∙ sym (ask-unsorted byte (a .n) (a .file .now) (a .name .now) (l .loop .place) (l .loop .inv .0) (l .loop .last .now) (search needs) (f .found .given .0 .0) read (ap isLess order)) ∙ l .loop .inv .1
+    ∙ sym (ask-unsorted (name l) (l .loop .inv .0) (l .loop .last .now) (it (cut o)) (order-is o ∙ not-true _ (c .before .before .if2 .taken))) ∙ l .loop .inv .1
 
 add-place : tie.Need-add-place Inv-loop μ-loop
 add-place c =
-    let o = c .before .before .before in
-    let q = o .before .before in
-    let m = q .before in
-    let f = m .before .before in
-    let k = f .before .before in
-    let l = k .before .before .before in
-    let a = l .before .before .before .before .args in
-    let byte = classesOf (a .t .now) in
-    let rest = rest-is (a .file .now) (l .loop .place) in
-    let read = ap (recordOf byte (a .n)) (sym rest) ∙ sym (k .reference .ensures) ∙ f .found .given .1 in
-    omega (arith, next-inside byte (a .n) (a .file .now) (l .loop .place) (f .found .given .0 .0) read (search needs), l .before .before .before .before .good)
+    let m = cut (c .before .before) in
+    omega (arith, goes-on (it m), its-turn m .before .before .before .before .good)
 
 loop-less : tie.Need-loop-less Inv-loop μ-loop
-loop-less c =
-    let o = c .before .before .before in
-    let q = o .before .before in
-    let m = q .before in
-    let f = m .before .before in
-    let k = f .before .before in
-    let l = k .before .before .before in
-    let a = l .before .before .before .before .args in
-    let byte = classesOf (a .t .now) in
-    let rest = rest-is (a .file .now) (l .loop .place) in
-    let read = ap (recordOf byte (a .n)) (sym rest) ∙ sym (k .reference .ensures) ∙ f .found .given .1 in
-    omega (arith, next-inside byte (a .n) (a .file .now) (l .loop .place) (f .found .given .0 .0) read (search needs))
+loop-less c = omega (arith, goes-on (it (cut (c .before .before))))
 
 loop-again : tie.Need-loop-again Inv-loop μ-loop
 loop-again c =
-    let o = c .before .before .before in
-    let q = o .before .before in
-    let m = q .before in
-    let f = m .before .before in
-    let k = f .before .before in
-    let l = k .before .before .before in
-    let a = l .before .before .before .before .args in
-    let byte = classesOf (a .t .now) in
-    let rest = rest-is (a .file .now) (l .loop .place) in
-    let read = ap (recordOf byte (a .n)) (sym rest) ∙ sym (k .reference .ensures) ∙ f .found .given .1 in
-    let name = m .name-of .ensures ∙ ap (λ r. take (f .found .given .0 .0 .name) (drop (a .n + 1) r)) rest in
-    let is = ap (same (a .name .now)) (sym name) ∙ sym (q .is-same .ensures) ∙ o .before .if1 .left in
-    let order = ap (orderOf (l .loop .last .now)) (sym name) ∙ sym (o .compare .ensures) ∙ c .before .enum-told .given .1 in
-    let on = sym (ask-on byte (a .n) (a .file .now) (a .name .now) (l .loop .place) (l .loop .inv .0) (l .loop .last .now) (search needs) (f .found .given .0 .0) read is (ap isLess order)) ∙ l .loop .inv .1 in
-    (suc (l .loop .inv .0), rw name on)
+    let o = c .before .before in
+    let l = its-turn (cut o) in
+    let on = ask-on (name l) (l .loop .inv .0) (l .loop .last .now) (it (cut o)) (name-is (cut o)) (wanted-is (o .before .before) ∙ o .before .if1 .left) (order-is o ∙ not-false _ (c .before .if2 .left)) in
+    (suc (l .loop .inv .0), sym on ∙ l .loop .inv .1)
 
-returns-5 : tie.Need-returns-5 Inv-loop μ-loop
-returns-5 c =
+returns-4 : tie.Need-returns-4 Inv-loop μ-loop
+returns-4 c =
     let l = c .before in
     let a = l .before .before .before .before .args in
-    sym (ask-end (classesOf (a .t .now)) (a .n) (a .file .now) (a .name .now) (l .loop .place) (l .loop .inv .0) (l .loop .last .now) (c .loop-test .left)) ∙ l .loop .inv .1
+    sym (ask-end (classesOf (a .t .now)) (a .n) (a .file .now) (name l) (l .loop .place) (l .loop .inv .0) (l .loop .last .now) (c .loop-test .left)) ∙ l .loop .inv .1
 
 pub ask-body-spec : {M : Type 1} → statement M
 ask-body-spec =
@@ -224,17 +180,11 @@ ask-body-spec =
     name-of-requires
     is-same-requires
     returns-2
-    compare-requires
-    enum-told
-    enum-told-2
+    is-less-requires
     first-named-requires-2
     verdict-unless-requires-2
     returns-3
-    enum-told-3
-    first-named-requires-3
-    verdict-unless-requires-3
-    returns-4
     add-place
     loop-less
     loop-again
-    returns-5)
+    returns-4)

@@ -1,16 +1,16 @@
 -- `find::ask::first_named` meets its contract: what is sought from the place reached on decides the whole.
 use mathlib.Core.Path.{_≡_, refl, sym, ap, _∙_}
-use Prim.Native.Nat.{_+_, _-_, _≤_}
+use mathlib.Core.List.{List}
+use Prim.Native.Nat.{ℕ, _-_}
 use native.Mathlib.Omega.{arith}
-use lib.ListN.{length, take, drop, length-drop}
+use lib.ListN.{length, drop, length-drop}
 use Rattle.parse.specs.Class.{classesOf}
-use Rattle.parse.specs.Line.{lineLen}
 use Rattle.parse.specs.Prefix.{same}
 use Rattle.parse.proofs.Fronts.{lineLen-some}
-use Rattle.parse.proofs.Slices.{rest-is}
-use Rattle.decode.specs.Record.{recordOf}
-use Rattle.iter.proofs.Turns.{next-inside}
+use Rattle.decode.specs.declared.reference.Reading.{Reading}
+use Rattle.decode.specs.declared.reference.Reading.the-variants.{Good}
 use Rattle.find.specs.Ask.{soughtFrom}
+use Rattle.iter.proofs.ItemRead.{Reads, reads, told, goes-on, named, named-is}
 use Rattle.find.proofs.Seeking.{seek-end, seek-bad, seek-found, seek-other}
 use borrow.Author.Needs.{needs}
 use Rattle.find.proofs.ask.first_named.Statement.{statement}
@@ -43,20 +43,44 @@ enum-told c = search needs
 line-end-requires : tie.Need-line-end-requires Inv-loop μ-loop
 line-end-requires c κs = search needs
 
+-- ---- what is known at each place of a turn
+
+-- what is read at the turn's place
+abbrev Read : tie.At-loop Inv-loop μ-loop → Reading → Type 0
+Read l what = let a = l .before .before .before .args in Reads (classesOf (a .t .now)) (a .n) (a .file .now) (l .loop .place) what
+
+abbrev name : tie.At-loop Inv-loop μ-loop → List ℕ
+name l = l .before .before .before .args .name .now
+
+module _ (k : tie.After-reference Inv-loop μ-loop) where
+  abbrev turn : tie.At-loop Inv-loop μ-loop
+  turn = k .before .before .before
+
+  item : Read turn (k .reference .result)
+  item = reads (search needs) (k .reference .ensures)
+
+-- a record's name is held against the wanted one
+module _ (q : tie.After-is-same Inv-loop μ-loop) where
+  abbrev its-turn : tie.At-loop Inv-loop μ-loop
+  its-turn = turn (q .before .before .before .before .before)
+
+  it : Read its-turn (Good (q .before .before .before .found .given .0 .0))
+  it = told (item (q .before .before .before .before .before)) (q .before .before .before .found .given .1)
+
+  wanted-is : same (name its-turn) (named it) ≡ q .is-same .result
+  wanted-is = ap (same (name its-turn)) (sym (named-is it (q .before .name-of .ensures))) ∙ sym (q .is-same .ensures)
+
 loop-less : tie.Need-loop-less Inv-loop μ-loop
 loop-less c =
-    let l = c .before .before .before .before .before .before in
-    let a = l .before .before .before .args in
-    omega (arith, c .line-end .ensures, lineLen-some (drop (l .loop .place) (a .file .now)) (omega (arith, length-drop (l .loop .place) (a .file .now))))
+    let l = turn (c .before .before .before) in
+    let file = l .before .before .before .args .file .now in
+    omega (arith, c .line-end .ensures, lineLen-some (drop (l .loop .place) file) (omega (arith, length-drop (l .loop .place) file)))
 
 loop-again : tie.Need-loop-again Inv-loop μ-loop
 loop-again c =
     let k = c .before .before .before in
-    let l = k .before .before .before in
-    let a = l .before .before .before .args in
-    let byte = classesOf (a .t .now) in
-    let read = ap (recordOf byte (a .n)) (sym (rest-is (a .file .now) (l .loop .place))) ∙ sym (k .reference .ensures) ∙ c .before .enum-told .given .1 in
-    rw (c .line-end .ensures) (sym (seek-bad byte (a .n) (a .file .now) (a .name .now) (l .loop .place) (search needs) (c .before .enum-told .given .0 .0) read) ∙ l .loop .inv)
+    let l = turn k in
+    rw (c .line-end .ensures) (sym (seek-bad (name l) (told (item k) (c .before .enum-told .given .1))) ∙ l .loop .inv)
 
 enum-known-found : tie.Need-enum-known-found Inv-loop μ-loop
 enum-known-found c = search needs
@@ -69,63 +93,28 @@ is-same-requires c κs = search needs
 
 returns : tie.Need-returns Inv-loop μ-loop
 returns c =
-    let q = c .before in
-    let m = q .before in
-    let f = m .before .before in
-    let k = f .before .before in
-    let l = k .before .before .before in
-    let a = l .before .before .before .args in
-    let byte = classesOf (a .t .now) in
-    let rest = rest-is (a .file .now) (l .loop .place) in
-    let read = ap (recordOf byte (a .n)) (sym rest) ∙ sym (k .reference .ensures) ∙ f .found .given .1 in
-    let is = ap (same (a .name .now)) (sym (m .name-of .ensures ∙ ap (λ r. take (f .found .given .0 .0 .name) (drop (a .n + 1) r)) rest)) ∙ sym (q .is-same .ensures) ∙ c .if1 .taken in
-    sym (seek-found byte (a .n) (a .file .now) (a .name .now) (l .loop .place) (search needs) (f .found .given .0 .0) read is) ∙ l .loop .inv
+    let l = its-turn (c .before) in
+    sym (seek-found (name l) (it (c .before)) (wanted-is (c .before) ∙ c .if1 .taken)) ∙ l .loop .inv
 
 add-place : tie.Need-add-place Inv-loop μ-loop
 add-place c =
     let q = c .before .before in
-    let m = q .before in
-    let f = m .before .before in
-    let k = f .before .before in
-    let l = k .before .before .before in
-    let a = l .before .before .before .args in
-    let byte = classesOf (a .t .now) in
-    let rest = rest-is (a .file .now) (l .loop .place) in
-    let read = ap (recordOf byte (a .n)) (sym rest) ∙ sym (k .reference .ensures) ∙ f .found .given .1 in
-    omega (arith, next-inside byte (a .n) (a .file .now) (l .loop .place) (f .found .given .0 .0) read (search needs), l .before .before .before .good)
+    omega (arith, goes-on (it q), its-turn q .before .before .before .good)
 
 loop-less-2 : tie.Need-loop-less-2 Inv-loop μ-loop
-loop-less-2 c =
-    let q = c .before .before in
-    let m = q .before in
-    let f = m .before .before in
-    let k = f .before .before in
-    let l = k .before .before .before in
-    let a = l .before .before .before .args in
-    let byte = classesOf (a .t .now) in
-    let rest = rest-is (a .file .now) (l .loop .place) in
-    let read = ap (recordOf byte (a .n)) (sym rest) ∙ sym (k .reference .ensures) ∙ f .found .given .1 in
-    omega (arith, next-inside byte (a .n) (a .file .now) (l .loop .place) (f .found .given .0 .0) read (search needs))
+loop-less-2 c = omega (arith, goes-on (it (c .before .before)))
 
 loop-again-2 : tie.Need-loop-again-2 Inv-loop μ-loop
 loop-again-2 c =
     let q = c .before .before in
-    let m = q .before in
-    let f = m .before .before in
-    let k = f .before .before in
-    let l = k .before .before .before in
-    let a = l .before .before .before .args in
-    let byte = classesOf (a .t .now) in
-    let rest = rest-is (a .file .now) (l .loop .place) in
-    let read = ap (recordOf byte (a .n)) (sym rest) ∙ sym (k .reference .ensures) ∙ f .found .given .1 in
-    let is = ap (same (a .name .now)) (sym (m .name-of .ensures ∙ ap (λ r. take (f .found .given .0 .0 .name) (drop (a .n + 1) r)) rest)) ∙ sym (q .is-same .ensures) ∙ c .before .if1 .left in
-    sym (seek-other byte (a .n) (a .file .now) (a .name .now) (l .loop .place) (search needs) (f .found .given .0 .0) read is) ∙ l .loop .inv
+    let l = its-turn q in
+    sym (seek-other (name l) (it q) (wanted-is q ∙ c .before .if1 .left)) ∙ l .loop .inv
 
 returns-2 : tie.Need-returns-2 Inv-loop μ-loop
 returns-2 c =
     let l = c .before in
     let a = l .before .before .before .args in
-    sym (seek-end (classesOf (a .t .now)) (a .n) (a .file .now) (a .name .now) (l .loop .place) (c .loop-test .left)) ∙ l .loop .inv
+    sym (seek-end (classesOf (a .t .now)) (a .n) (a .file .now) (name l) (l .loop .place) (c .loop-test .left)) ∙ l .loop .inv
 
 pub first-named-spec : {M : Type 1} → statement M
 first-named-spec =

@@ -1,15 +1,15 @@
 -- `find::search::search` meets its contract: what is left to halve decides the whole.
-use mathlib.Core.Path.{_≡_, refl, sym, ap, _∙_}
-use mathlib.Core.Bool.{_||_}
-use Prim.Native.Nat.{_+_, _-_, _/_}
-use native.Mathlib.Omega.{arith}
+use mathlib.Core.Path.{_≡_, sym, ap, _∙_}
+use mathlib.Core.Bool.{Bool}
+use Prim.Native.Nat.{ℕ, _-_}
 use lib.ListN.{length, drop}
+use Rattle.parse.specs.declared.order.Order.{Order}
 use Rattle.parse.specs.Class.{classesOf}
 use Rattle.parse.proofs.Slices.{rest-is}
-use Rattle.decode.specs.Start.{recordStart}
+use Rattle.find.specs.declared.search.Found.{Found}
 use Rattle.find.specs.declared.search.Found.the-variants.{Hit, Miss}
 use Rattle.find.specs.declared.search.Probed.{Probed}
-use Rattle.find.specs.Search.{middle, probedOf, orderAt, failureAt, placed, searchOf}
+use Rattle.find.specs.Search.{middle, probedOf, probedAt, orderAt, failureAt, placed, searchOf}
 use Rattle.find.proofs.Halving.{Going, at-first, ended, found-it, to-right, to-left}
 use borrow.Author.Needs.{needs}
 use Rattle.find.proofs.search.search.Statement.{statement}
@@ -51,21 +51,47 @@ add-low c = search needs
 loop-less : tie.Need-loop-less Inv-loop μ-loop
 loop-less c = search needs
 
+-- ---- what is known at each place of a turn
+
+module _ (l : tie.At-loop Inv-loop μ-loop) where
+  abbrev probes : ℕ → Probed
+  probes = let a = l .before .before .before .args in probedAt (classesOf (a .t .now)) (a .n) (a .s .now) (a .wanted .now)
+
+  abbrev order : ℕ → Order
+  order place = probes place .order
+
+  abbrev failure : ℕ → Bool
+  failure place = probes place .failed
+
+  abbrev starts : Found → Found
+  starts = let a = l .before .before .before .args in placed (classesOf (a .t .now)) (a .n) (a .s .now) (a .wanted .now)
+
+-- the record that the middle lies in is probed
+module _ (p : tie.After-probe Inv-loop μ-loop) where
+  abbrev turn : tie.At-loop Inv-loop μ-loop
+  turn = p .before .before .before .before
+
+  abbrev half : ℕ
+  half = middle (turn .loop .low) (turn .loop .high)
+
+  said : p .probe .result ≡ probes turn half
+  said =
+      let a = turn .before .before .before .args in
+      let start = p .before .before .record-start2 in
+      let here = p .before .between .ensures ∙ rest-is (a .s .now) (start .result) ∙ ap (λ k. drop k (a .s .now)) (start .ensures) in
+      p .probe .ensures ∙ ap (λ x. probedOf (classesOf (a .t .now)) (a .n) x (a .wanted .now)) here
+
+  order-is : order turn half ≡ p .probe .result .order
+  order-is = ap (λ (x : Probed). x .order) (sym said)
+
+  failure-is : p .probe .result .failed ≡ failure turn half
+  failure-is = ap (λ (x : Probed). x .failed) said
+
 loop-again : tie.Need-loop-again Inv-loop μ-loop
 loop-again c =
-    let k = c .before .before in
-    let p = k .before in
-    let r = p .before .before in
-    let e = r .before in
-    let l = e .before in
-    let a = l .before .before .before .args in
-    let byte = classesOf (a .t .now) in
-    let order = orderAt byte (a .n) (a .s .now) (a .wanted .now) in
-    let failure = failureAt byte (a .n) (a .s .now) (a .wanted .now) in
-    let here = p .before .between .ensures ∙ rest-is (a .s .now) (r .record-start2 .result) ∙ ap (λ k. drop k (a .s .now)) (r .record-start2 .ensures) in
-    let said = p .probe .ensures ∙ ap (λ x. probedOf byte (a .n) x (a .wanted .now)) here in
-    let right = to-right order failure (l .loop .inv) (e .if1 .left) (ap (λ (x : Probed). x .order) (sym said) ∙ c .enum-told .given .1) in
-    rw (ap (λ (x : Probed). x .failed) said) right
+    let p = c .before .before .before in
+    let l = turn p in
+    rw (failure-is p) (to-right (order l) (failure l) (l .loop .inv) (p .before .before .before .if1 .left) (order-is p ∙ c .enum-told .given .1))
 
 enum-told-2 : tie.Need-enum-told-2 Inv-loop μ-loop
 enum-told-2 c = search needs
@@ -78,45 +104,24 @@ loop-less-2 c = search needs
 
 loop-again-2 : tie.Need-loop-again-2 Inv-loop μ-loop
 loop-again-2 c =
-    let k = c .before .before in
-    let p = k .before in
-    let r = p .before .before in
-    let e = r .before in
-    let l = e .before in
-    let a = l .before .before .before .args in
-    let byte = classesOf (a .t .now) in
-    let order = orderAt byte (a .n) (a .s .now) (a .wanted .now) in
-    let failure = failureAt byte (a .n) (a .s .now) (a .wanted .now) in
-    let here = p .before .between .ensures ∙ rest-is (a .s .now) (r .record-start2 .result) ∙ ap (λ k. drop k (a .s .now)) (r .record-start2 .ensures) in
-    let said = p .probe .ensures ∙ ap (λ x. probedOf byte (a .n) x (a .wanted .now)) here in
-    let left = to-left order failure (l .loop .inv) (e .if1 .left) (ap (λ (x : Probed). x .order) (sym said) ∙ c .enum-told3 .given .1) in
-    rw (ap (λ (x : Probed). x .failed) said) left
+    let p = c .before .before .before in
+    let l = turn p in
+    rw (failure-is p) (to-left (order l) (failure l) (l .loop .inv) (p .before .before .before .if1 .left) (order-is p ∙ c .enum-told3 .given .1))
 
 returns : tie.Need-returns Inv-loop μ-loop
 unfolding searchOf
 returns c =
     let l = c .before .before in
-    let a = l .before .before .before .args in
-    let byte = classesOf (a .t .now) in
     ap (λ p. Miss p (l .loop .failed)) (c .record-start .ensures)
-    ∙ sym (ap (placed byte (a .n) (a .s .now) (a .wanted .now)) (ended (orderAt byte (a .n) (a .s .now) (a .wanted .now)) (failureAt byte (a .n) (a .s .now) (a .wanted .now)) (l .loop .inv) (c .before .if1 .taken)))
+    ∙ sym (ap (starts l) (ended (order l) (failure l) (l .loop .inv) (c .before .if1 .taken)))
 
 returns-2 : tie.Need-returns-2 Inv-loop μ-loop
 unfolding searchOf
 returns-2 c =
-    let k = c .before .before in
-    let p = k .before in
-    let r = p .before .before in
-    let e = r .before in
-    let l = e .before in
-    let a = l .before .before .before .args in
-    let byte = classesOf (a .t .now) in
-    let order = orderAt byte (a .n) (a .s .now) (a .wanted .now) in
-    let failure = failureAt byte (a .n) (a .s .now) (a .wanted .now) in
-    let here = p .before .between .ensures ∙ rest-is (a .s .now) (r .record-start2 .result) ∙ ap (λ k. drop k (a .s .now)) (r .record-start2 .ensures) in
-    let said = p .probe .ensures ∙ ap (λ x. probedOf byte (a .n) x (a .wanted .now)) here in
-    ap Hit (r .record-start2 .ensures)
-    ∙ sym (ap (placed byte (a .n) (a .s .now) (a .wanted .now)) (found-it order failure (l .loop .inv) (e .if1 .left) (ap (λ (x : Probed). x .order) (sym said) ∙ c .enum-told2 .given .1)))
+    let p = c .before .before .before in
+    let l = turn p in
+    ap Hit (p .before .before .record-start2 .ensures)
+    ∙ sym (ap (starts l) (found-it (order l) (failure l) (l .loop .inv) (p .before .before .before .if1 .left) (order-is p ∙ c .enum-told2 .given .1)))
 
 pub search-spec : {M : Type 1} → statement M
 search-spec =

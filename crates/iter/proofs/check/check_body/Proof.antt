@@ -1,15 +1,21 @@
 -- `iter::check::check_body` meets its contract: the items from the place reached on, judged after those before, decide the whole.
 use mathlib.Core.Path.{_≡_, refl, sym, ap, _∙_}
-use Prim.Native.Nat.{_+_, _-_, _≤_}
+use mathlib.Core.Bool.{Bool}
+use mathlib.Core.List.{List}
+use Prim.Native.Nat.{ℕ, _+_, _-_, _≤_, _<_}
 use native.Mathlib.Numerals.{add-one}
 use native.Mathlib.Omega.{arith}
 use lib.ListN.{length, take, drop}
-use Rattle.parse.specs.Class.{classesOf}
-use Rattle.parse.specs.Order.{orderOf}
+use borrow.Author.Tests.{not-true, not-false}
+use Rattle.parse.specs.Class.{Classes, classesOf}
+use Rattle.parse.specs.Order.{smaller}
 use Rattle.parse.proofs.Slices.{rest-is}
+use Rattle.decode.specs.declared.reference.Record.{Record}
+use Rattle.decode.specs.declared.reference.Reading.{Reading}
+use Rattle.decode.specs.declared.reference.Reading.the-variants.{Good}
 use Rattle.decode.specs.Record.{recordOf}
 use Rattle.iter.specs.Items.{items}
-use Rattle.iter.specs.Check.{isLess, judge, judgeBody}
+use Rattle.iter.specs.Check.{judge, judgeBody}
 use Rattle.iter.proofs.Turns.{next-inside, turn-end, turn-bad, turn-unsorted, turn-good}
 use borrow.Author.Needs.{needs}
 use Rattle.iter.proofs.check.check_body.Statement.{statement}
@@ -49,14 +55,70 @@ reference-requires c κs = search needs
 enum-known-fault : tie.Need-enum-known-fault Inv-loop μ-loop
 enum-known-fault c = search needs
 
+-- ---- what is known at each place of a turn
+
+module _ (l : tie.At-loop Inv-loop μ-loop) where
+  abbrev byte : Classes
+  byte = classesOf (l .before .before .before .args .t .now)
+
+  abbrev n : ℕ
+  n = l .before .before .before .args .n
+
+  abbrev file : List ℕ
+  file = l .before .before .before .args .file .now
+
+  abbrev rest : List ℕ
+  rest = drop (l .loop .place) file
+
+-- the item at the place is read
+module _ (k : tie.After-reference Inv-loop μ-loop) where
+  abbrev turn : tie.At-loop Inv-loop μ-loop
+  turn = k .before .before .before
+
+  inside : turn .loop .place < length (file turn)
+  inside = search needs
+
+  reads : recordOf (byte turn) (n turn) (rest turn) ≡ k .reference .result
+  reads = ap (recordOf (byte turn) (n turn)) (sym (rest-is (file turn) (turn .loop .place))) ∙ sym (k .reference .ensures)
+
+-- it is a record
+module _ (f : tie.After-found Inv-loop μ-loop) where
+  abbrev its-turn : tie.At-loop Inv-loop μ-loop
+  its-turn = turn (f .before .before)
+
+  abbrev it : Record
+  it = f .found .given .0 .0
+
+  abbrev its-name : List ℕ
+  its-name = take (it .name) (drop (n its-turn + 1) (rest its-turn))
+
+  is-record : recordOf (byte its-turn) (n its-turn) (rest its-turn) ≡ Good it
+  is-record = reads (f .before .before) ∙ f .found .given .1
+
+  goes-on : (its-turn .loop .place < its-turn .loop .place + it .size) × (its-turn .loop .place + it .size ≤ length (file its-turn))
+  goes-on = next-inside (byte its-turn) (n its-turn) (file its-turn) (its-turn .loop .place) it is-record (inside (f .before .before))
+
+-- its name is cut out
+module _ (m : tie.After-name-of Inv-loop μ-loop) where
+  abbrev record-place : tie.After-found Inv-loop μ-loop
+  record-place = m .before .before
+
+  name-is : m .name-of .result .now ≡ its-name record-place
+  name-is = m .name-of .ensures ∙ ap (λ r. take (it record-place .name) (drop (n (its-turn record-place) + 1) r)) (rest-is (file (its-turn record-place)) (its-turn record-place .loop .place))
+
+-- and held against the name before
+module _ (q : tie.After-is-less Inv-loop μ-loop) where
+  abbrev of-record : tie.After-found Inv-loop μ-loop
+  of-record = record-place (q .before)
+
+  order-is : smaller (its-turn of-record .loop .last .now) (its-name of-record) ≡ q .is-less .result
+  order-is = ap (smaller (its-turn of-record .loop .last .now)) (sym (name-is (q .before))) ∙ sym (q .is-less .ensures)
+
 returns : tie.Need-returns Inv-loop μ-loop
 returns c =
     let k = c .before .before .before in
-    let l = k .before .before .before in
-    let a = l .before .before .before .args in
-    let byte = classesOf (a .t .now) in
-    let read = ap (recordOf byte (a .n)) (sym (rest-is (a .file .now) (l .loop .place))) ∙ sym (k .reference .ensures) ∙ c .before .fault .given .1 in
-    sym (turn-bad byte (a .n) (a .file .now) (l .loop .place) (l .loop .count) (l .loop .last .now) (search needs) (c .before .fault .given .0 .0) read) ∙ l .loop .inv .1
+    let l = turn k in
+    sym (turn-bad (byte l) (n l) (file l) (l .loop .place) (l .loop .count) (l .loop .last .now) (inside k) (c .before .fault .given .0 .0) (reads k ∙ c .before .fault .given .1)) ∙ l .loop .inv .1
 
 enum-known-found : tie.Need-enum-known-found Inv-loop μ-loop
 enum-known-found c = search needs
@@ -64,98 +126,38 @@ enum-known-found c = search needs
 name-of-requires : tie.Need-name-of-requires Inv-loop μ-loop
 name-of-requires c κs = search needs
 
-compare-requires : tie.Need-compare-requires Inv-loop μ-loop
-compare-requires c κs = search needs
-
-enum-told : tie.Need-enum-told Inv-loop μ-loop
-enum-told c = search needs
-
-enum-told-2 : tie.Need-enum-told-2 Inv-loop μ-loop
-enum-told-2 c = search needs
+is-less-requires : tie.Need-is-less-requires Inv-loop μ-loop
+is-less-requires c κs = search needs
 
 returns-2 : tie.Need-returns-2 Inv-loop μ-loop
 returns-2 c =
-    let q = c .before .before in
-    let m = q .before in
-    let f = m .before .before in
-    let k = f .before .before in
-    let l = k .before .before .before in
-    let a = l .before .before .before .args in
-    let byte = classesOf (a .t .now) in
-    let rest = rest-is (a .file .now) (l .loop .place) in
-    let read = ap (recordOf byte (a .n)) (sym rest) ∙ sym (k .reference .ensures) ∙ f .found .given .1 in
-    let name = m .name-of .ensures ∙ ap (λ r. take (f .found .given .0 .0 .name) (drop (a .n + 1) r)) rest in
-    let order = ap (orderOf (l .loop .last .now)) (sym name) ∙ sym (q .compare .ensures) ∙ c .enum-told2 .given .1 in
-    sym (turn-unsorted byte (a .n) (a .file .now) (l .loop .place) (l .loop .count) (l .loop .last .now) (search needs) (f .found .given .0 .0) read (ap isLess order)) ∙ l .loop .inv .1
-
-enum-told-3 : tie.Need-enum-told-3 Inv-loop μ-loop
-enum-told-3 c = search needs
-
-returns-3 : tie.Need-returns-3 Inv-loop μ-loop
-returns-3 c =
-    let q = c .before .before in
-    let m = q .before in
-    let f = m .before .before in
-    let k = f .before .before in
-    let l = k .before .before .before in
-    let a = l .before .before .before .args in
-    let byte = classesOf (a .t .now) in
-    let rest = rest-is (a .file .now) (l .loop .place) in
-    let read = ap (recordOf byte (a .n)) (sym rest) ∙ sym (k .reference .ensures) ∙ f .found .given .1 in
-    let name = m .name-of .ensures ∙ ap (λ r. take (f .found .given .0 .0 .name) (drop (a .n + 1) r)) rest in
-    let order = ap (orderOf (l .loop .last .now)) (sym name) ∙ sym (q .compare .ensures) ∙ c .enum-told3 .given .1 in
-    sym (turn-unsorted byte (a .n) (a .file .now) (l .loop .place) (l .loop .count) (l .loop .last .now) (search needs) (f .found .given .0 .0) read (ap isLess order)) ∙ l .loop .inv .1
+    let f = of-record (c .before) in
+    let l = its-turn f in
+    sym (turn-unsorted (byte l) (n l) (file l) (l .loop .place) (l .loop .count) (l .loop .last .now) (inside (f .before .before)) (it f) (is-record f) (order-is (c .before) ∙ not-true _ (c .if1 .taken))) ∙ l .loop .inv .1
 
 add-count : tie.Need-add-count Inv-loop μ-loop
 add-count c = search needs
 
 add-place : tie.Need-add-place Inv-loop μ-loop
 add-place c =
-    let q = c .before .before .before in
-    let m = q .before in
-    let f = m .before .before in
-    let k = f .before .before in
-    let l = k .before .before .before in
-    let a = l .before .before .before .args in
-    let byte = classesOf (a .t .now) in
-    let rest = rest-is (a .file .now) (l .loop .place) in
-    let read = ap (recordOf byte (a .n)) (sym rest) ∙ sym (k .reference .ensures) ∙ f .found .given .1 in
-    omega (arith, next-inside byte (a .n) (a .file .now) (l .loop .place) (f .found .given .0 .0) read (search needs), l .before .before .before .good)
+    let f = of-record (c .before .before) in
+    omega (arith, goes-on f, its-turn f .before .before .before .good)
 
 loop-less : tie.Need-loop-less Inv-loop μ-loop
-loop-less c =
-    let q = c .before .before .before in
-    let m = q .before in
-    let f = m .before .before in
-    let k = f .before .before in
-    let l = k .before .before .before in
-    let a = l .before .before .before .args in
-    let byte = classesOf (a .t .now) in
-    let rest = rest-is (a .file .now) (l .loop .place) in
-    let read = ap (recordOf byte (a .n)) (sym rest) ∙ sym (k .reference .ensures) ∙ f .found .given .1 in
-    omega (arith, next-inside byte (a .n) (a .file .now) (l .loop .place) (f .found .given .0 .0) read (search needs))
+loop-less c = omega (arith, goes-on (of-record (c .before .before)))
 
 loop-again : tie.Need-loop-again Inv-loop μ-loop
 loop-again c =
-    let q = c .before .before .before in
-    let m = q .before in
-    let f = m .before .before in
-    let k = f .before .before in
-    let l = k .before .before .before in
-    let a = l .before .before .before .args in
-    let byte = classesOf (a .t .now) in
-    let rest = rest-is (a .file .now) (l .loop .place) in
-    let read = ap (recordOf byte (a .n)) (sym rest) ∙ sym (k .reference .ensures) ∙ f .found .given .1 in
-    let name = m .name-of .ensures ∙ ap (λ r. take (f .found .given .0 .0 .name) (drop (a .n + 1) r)) rest in
-    let order = ap (orderOf (l .loop .last .now)) (sym name) ∙ sym (q .compare .ensures) ∙ c .before .enum-told .given .1 in
-    let again = sym (turn-good byte (a .n) (a .file .now) (l .loop .place) (l .loop .count) (l .loop .last .now) (search needs) (f .found .given .0 .0) read (ap isLess order)) ∙ l .loop .inv .1 in
-    (omega (arith, next-inside byte (a .n) (a .file .now) (l .loop .place) (f .found .given .0 .0) read (search needs)), rw (add-one, name) again)
+    let q = c .before .before in
+    let f = of-record q in
+    let l = its-turn f in
+    let again = sym (turn-good (byte l) (n l) (file l) (l .loop .place) (l .loop .count) (l .loop .last .now) (inside (f .before .before)) (it f) (is-record f) (order-is q ∙ not-false _ (c .before .if1 .left))) ∙ l .loop .inv .1 in
+    (omega (arith, goes-on f), rw (add-one, name-is (q .before)) again)
 
-returns-4 : tie.Need-returns-4 Inv-loop μ-loop
-returns-4 c =
+returns-3 : tie.Need-returns-3 Inv-loop μ-loop
+returns-3 c =
     let l = c .before in
-    let a = l .before .before .before .args in
-    sym (turn-end (classesOf (a .t .now)) (a .n) (a .file .now) (l .loop .place) (l .loop .count) (l .loop .last .now) (c .loop-test .left)) ∙ l .loop .inv .1
+    sym (turn-end (byte l) (n l) (file l) (l .loop .place) (l .loop .count) (l .loop .last .now) (c .loop-test .left)) ∙ l .loop .inv .1
 
 pub check-body-spec : {M : Type 1} → statement M
 check-body-spec =
@@ -175,14 +177,10 @@ check-body-spec =
     returns
     enum-known-found
     name-of-requires
-    compare-requires
-    enum-told
-    enum-told-2
+    is-less-requires
     returns-2
-    enum-told-3
-    returns-3
     add-count
     add-place
     loop-less
     loop-again
-    returns-4)
+    returns-3)
