@@ -1,0 +1,118 @@
+-- What a turn of each loop does, and what is left at its end.
+use mathlib.Core.Path.{_≡_, refl, sym, ap, _∙_}
+use mathlib.Core.Bool.{Bool, true, false, not, _||_, false≢true}
+use mathlib.Core.List.{List, [], _∷_, _++_}
+use Prim.Native.Nat.{ℕ, zero, suc, _+_, _-_, _/_, _%_, _≤_, _<_, min}
+use native.Mathlib.Nat.{add-zero, add-suc, zero-add}
+use native.Mathlib.Numerals.{add-one}
+use native.Mathlib.Omega.{arith}
+use lib.Dec.{leb}
+use lib.ListN.{length, getD, take, drop, set, length-append, length-drop, drop-of-length-le}
+use lib.Seq.{drop-cons, drop-drop, length-take-le}
+use borrow.Author.Tests.{leb-true, leb-false}
+use Rattle.parse.specs.Class.{valuesFrom}
+use Rattle.parse.specs.Run.{span}
+use Rattle.parse.proofs.Classes.{value-at}
+use Rattle.parse.proofs.Runs.{span-go, span-le}
+use Rattle.put.specs.Put.{over}
+use Rattle.put.specs.Text.{hexDigit, hexText, notCR, withoutCR}
+use Rattle.put.proofs.Laws.{over-nil, over-beyond, over-byte, over-twice, without-piece}
+
+-- ---- bytes
+
+module _ (d s : List ℕ) (at i : ℕ) where
+  pub copy-turn : i < length s → at + i < length d
+      → over (set d (at + i) (getD s i 0)) (at + (i + 1)) (drop (i + 1) s) ≡ over d (at + i) (drop i s)
+  copy-turn h k =
+      ap (λ l. over l (at + (i + 1)) (drop (i + 1) s)) (over-byte d (at + i) (getD s i 0) k)
+      ∙ over-twice d (at + i) (at + (i + 1)) (getD s i 0 ∷ []) (drop (i + 1) s) (omega arith)
+      ∙ ap (over d (at + i)) (ap (λ n. getD s i 0 ∷ drop n s) (add-one i) ∙ sym (drop-cons s i 0 h))
+
+  -- all is copied, or there is no more room
+  pub copy-end : min (length s) (length d - at) ≤ i → over d (at + i) (drop i s) ≡ d
+  copy-end h = go (leb (length s) i) refl
+    where
+      go : (t : Bool) → leb (length s) i ≡ t → over d (at + i) (drop i s) ≡ d
+      go true e = ap (over d (at + i)) (drop-of-length-le s (leb-true (length s) i e)) ∙ over-nil d (at + i)
+      go false e = over-beyond d (at + i) (drop i s) (omega (arith, leb-false (length s) i e))
+
+-- ---- hex
+
+-- the entries of the digits
+pub digit-at : (k : ℕ) → k < 16 → getD (valuesFrom hexDigit 0 16) k 0 ≡ hexDigit k
+digit-at k h = value-at hexDigit 0 16 k h ∙ ap hexDigit (zero-add k)
+
+module _ (d d₁ d₂ s : List ℕ) (o i a b : ℕ) where
+  pub hex-turn : i < length s → a ≡ hexDigit (getD s i 0 / 16) → b ≡ hexDigit (getD s i 0 % 16)
+      → d₁ ≡ over d o (a ∷ [])
+      → d₂ ≡ over d₁ (o + 1) (b ∷ [])
+      → over d₂ (o + 2) (hexText (drop (i + 1) s)) ≡ over d o (hexText (drop i s))
+  hex-turn h ea eb p q =
+      let two : d₂ ≡ over d o (a ∷ b ∷ []) =
+      q ∙ ap (λ l. over l (o + 1) (b ∷ [])) p ∙ over-twice d o (o + 1) (a ∷ []) (b ∷ []) (omega arith) in
+      ap (λ l. over l (o + 2) (hexText (drop (i + 1) s))) two
+      ∙ over-twice d o (o + 2) (a ∷ b ∷ []) (hexText (drop (i + 1) s)) (omega arith)
+      ∙ ap (over d o) (rw (ea, eb, drop-cons s i 0 h, add-one i))
+
+pub hex-end : (d s : List ℕ) (o i : ℕ) → length s ≤ i → over d o (hexText (drop i s)) ≡ d
+hex-end d s o i h = ap (λ l. over d o (hexText l)) (drop-of-length-le s h) ∙ over-nil d o
+
+-- ---- the next CR
+
+-- bytes that pass the test are passed over
+pub skip : (p : ℕ → Bool) (s : List ℕ) (i n : ℕ) → i + n ≤ length s → ((k : ℕ) → k < n → p (getD s (i + k) 0) ≡ true)
+    → i + span p (drop i s) ≡ (i + n) + span p (drop (i + n) s)
+skip p s i zero h all = rw add-zero
+skip p s i (suc n) h all =
+    skip p s i n (omega arith) (λ k l. all k (omega arith))
+    ∙ span-go p s (i + n) (omega arith) (all n (omega arith))
+    ∙ rw (add-suc i n, add-one (i + n))
+
+pub neither : (a b : Bool) → a || b ≡ false → (a ≡ false) × (not b ≡ true)
+neither true b e = absurd (false≢true (sym e))
+neither false true e = absurd (false≢true (sym e))
+neither false false e = (refl, refl)
+
+-- ---- lf: a piece up to the next CR or the end
+
+module _ (s : List ℕ) (from end : ℕ) (h : from ≤ length s) (e : end ≡ from + span notCR (drop from s)) where
+  pub piece-fits : end ≤ length s
+  piece-fits = omega (arith, span-le notCR (drop from s), length-drop from s)
+
+  abbrev piece : List ℕ
+  piece = take (end - from) (drop from s)
+
+  length-piece : length piece ≡ end - from
+  length-piece = length-take-le (end - from) (drop from s) (omega (arith, piece-fits, length-drop from s))
+
+  piece-first : withoutCR (drop from s) ≡ piece ++ withoutCR (drop (end + 1) s)
+  piece-first =
+      let n : span notCR (drop from s) ≡ end - from = omega arith in
+      let k : from + suc (end - from) ≡ end + 1 = omega arith in
+      without-piece (drop from s)
+      ∙ ap (λ m. take m (drop from s) ++ withoutCR (drop (suc m) (drop from s))) n
+      ∙ ap (λ l. piece ++ withoutCR l) (drop-drop (suc (end - from)) from s ∙ ap (λ m. drop m s) k)
+
+  pub piece-turn : (d d′ : List ℕ) (at len : ℕ) → d′ ≡ over d (at + len) piece
+      → over d′ (at + (len + (end - from))) (withoutCR (drop (end + 1) s)) ≡ over d (at + len) (withoutCR (drop from s))
+  piece-turn d d′ at len p =
+      ap (λ l. over l (at + (len + (end - from))) (withoutCR (drop (end + 1) s))) p
+      ∙ over-twice d (at + len) (at + (len + (end - from))) piece (withoutCR (drop (end + 1) s)) (omega (arith, length-piece))
+      ∙ ap (over d (at + len)) (sym piece-first)
+
+  pub length-turn : (len : ℕ) → len + (end - from) + length (withoutCR (drop (end + 1) s)) ≡ len + length (withoutCR (drop from s))
+  length-turn len = omega (arith, ap length piece-first, length-append piece (withoutCR (drop (end + 1) s)), length-piece)
+
+  -- nothing follows the last piece
+  none-left : length s ≤ end → withoutCR (drop (end + 1) s) ≡ []
+  none-left k = ap withoutCR (drop-of-length-le s {i = end + 1} (omega arith))
+
+  pub piece-last : length s ≤ end → (d d′ : List ℕ) (at len : ℕ) → d′ ≡ over d (at + len) piece
+      → d′ ≡ over d (at + len) (withoutCR (drop from s))
+  piece-last k d d′ at len p =
+      sym (over-nil d′ (at + (len + (end - from))))
+      ∙ ap (over d′ (at + (len + (end - from)))) (sym (none-left k))
+      ∙ piece-turn d d′ at len p
+
+  pub length-last : length s ≤ end → (len : ℕ) → len + (end - from) ≡ len + length (withoutCR (drop from s))
+  length-last k len = omega (arith, length-turn len, ap length (none-left k))
