@@ -1,13 +1,14 @@
 -- A length and an edit by their parts: what each is once a part can't be read, or once all of them can.
 use mathlib.Core.Path.{_≡_, refl, sym, ap, _∙_}
-use mathlib.Core.Bool.{Bool, true, false, _&&_, _||_, and-false, or-true}
+use mathlib.Core.Bool.{Bool, true, false, _&&_, _||_, and-false, or-true, and-eq-true-iff}
 use mathlib.Core.List.{List}
 use Prim.Native.Nat.{ℕ, zero, suc, _+_, _-_, _*_, _/_, _%_, _≤_, _<_}
 use native.Mathlib.Nat.{zero-mul}
 use native.Mathlib.Omega.{arith}
 use lib.Dec.{leb, ltb, eqb}
 use lib.ListN.{getD, length, take, drop}
-use borrow.Author.Tests.{lt-ltb, le-ltb, le-leb, lt-leb, eq-eqb, ne-eqb, leb-true, leb-false}
+use borrow.Author.Tests.{ltb-true, lt-ltb, le-ltb, le-leb, lt-leb, eq-eqb, ne-eqb, leb-true, leb-false}
+use Rattle.parse.specs.Choice.{if}
 use Rattle.parse.specs.Class.{Classes}
 use Rattle.name.specs.Name.{validName}
 use Rattle.edit.specs.declared.change.Length.{Length}
@@ -39,6 +40,22 @@ module _ (s : List ℕ) (at : ℕ) where
       unfolding lengthAt
       two-groups z h =
           rw (lt-ltb at (length s) inside, le-ltb (getD s at 0) 128 more, lt-ltb 0 (getD s (at + 1) 0) (omega arith), lt-ltb (getD s (at + 1) 0) 128 h)
+
+-- two groups of seven bits, and the place behind them
+pub length-small : (s : List ℕ) (at : ℕ) {len from : ℕ} → lengthAt s at ≡ long.Of len from → (len < 16384) × (from ≤ at + 2)
+unfolding lengthAt
+length-small s at {len} {from} e = go (ltb at (length s)) (ltb (getD s at 0) 128) refl (ltb 0 (getD s (at + 1) 0) && ltb (getD s (at + 1) 0) 128) refl e
+  where
+    go : (a b : Bool) → ltb (getD s at 0) 128 ≡ b → (c : Bool) → (ltb 0 (getD s (at + 1) 0) && ltb (getD s (at + 1) 0) 128) ≡ c
+        → if a (if b (long.Of (getD s at 0) (at + 1)) (if c (long.Of (getD s at 0 % 128 + 128 * getD s (at + 1) 0) (at + 1 + 1)) long.Malformed)) long.Malformed ≡ long.Of len from
+        → (len < 16384) × (from ≤ at + 2)
+    go false b p c q e = absurd (let z : _≡_ {A = ℕ} 0 1 = cc in omega arith)
+    go true true p c q e = let l : getD s at 0 ≡ len = cc in let f : at + 1 ≡ from = cc in (omega (arith, ltb-true (getD s at 0) 128 p), omega arith)
+    go true false p false q e = absurd (let z : _≡_ {A = ℕ} 0 1 = cc in omega arith)
+    go true false p true q e =
+        let l : getD s at 0 % 128 + 128 * getD s (at + 1) 0 ≡ len = cc in
+        let f : at + 1 + 1 ≡ from = cc in
+        (omega (arith, ltb-true (getD s (at + 1) 0) 128 (and-eq-true-iff (ltb 0 (getD s (at + 1) 0)) (ltb (getD s (at + 1) 0) 128) .0 q .1)), omega arith)
 
 module _ (byte : Classes) (n : ℕ) (s : List ℕ) where
   abbrev kind : ℕ

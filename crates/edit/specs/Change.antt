@@ -1,6 +1,6 @@
 -- One edit at the front of the bytes s, with ids of n digits.
 use mathlib.Core.Bool.{Bool, _&&_, _||_}
-use mathlib.Core.List.{List}
+use mathlib.Core.List.{List, []}
 use Prim.Native.Nat.{ℕ, _+_, _*_, _/_, _%_}
 use lib.Dec.{leb, ltb, eqb}
 use lib.ListN.{getD, length, take, drop}
@@ -48,3 +48,7 @@ changeOf byte n s =
     Malformed))
     Malformed)
     Malformed
+
+-- what stands behind the name of the edit at a place: its ids
+unfoldable pub behindName : List ℕ → ℕ → List ℕ
+behindName list place = measured (lengthAt list (place + 1)) (λ len from. drop (from + len) list) []

@@ -4,7 +4,7 @@ ghost use Prim.Native.Nat.{_+_, _<_};
 ghost use lib.Dec.{leb};
 ghost use lib.ListN.{length};
 ghost use Rattle.parse.specs.Class.{classesOf};
-ghost use Rattle.edit.specs.Change.{lengthAt, changeOf};
+ghost use Rattle.edit.specs.Change.{lengthAt, changeOf, behindName};
 
 // A length and the place behind it; or a form that a length doesn't have.
 pub enum Length {
@@ -90,6 +90,16 @@ pub fn read(t: &[u8; 256], n: usize, s: &[u8]) -> Reading
         name: value,
         size: next + value + ids,
     })
+}
+
+// What stands behind the name of the edit at a place: its ids.
+pub fn behind_name(list: &[u8], place: u32) -> &[u8]
+    ensures { λ r. ⌜ now r ≡ behindName (now (list .entry)) place ⌝ }
+{
+    let Length::Of { value, next } = length_at(list, place as usize + 1) else {
+        return &list[0..0];
+    };
+    parse::part::between(list, next + value, list.len())
 }
 
 // Whether a name and ids of these lengths stand there in full.

@@ -52,7 +52,7 @@ pub fn compare(s: &[u8], layout: Layout, p: u32, q: u32) -> Order
 }
 
 // The name of the edit at a place.
-fn edit_name(s: &[u8], p: u32) -> &[u8]
+pub fn edit_name(s: &[u8], p: u32) -> &[u8]
     ensures { λ r. ⌜ now r ≡ editName (now (s .entry)) p ⌝ }
 {
     let at = p as usize;
@@ -65,7 +65,7 @@ fn edit_name(s: &[u8], p: u32) -> &[u8]
 }
 
 // The byte at a place, or 0 beyond the end.
-fn byte_at(s: &[u8], at: usize) -> u8
+pub fn byte_at(s: &[u8], at: usize) -> u8
     ensures { λ r. ⌜ r ≡ getD (now (s .entry)) at 0 ⌝ }
 {
     if s.len() <= at {
