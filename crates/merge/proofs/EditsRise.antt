@@ -1,0 +1,134 @@
+-- A prepared edit list: how many edits it has, and that in order their names rise, and what they put there is sound.
+use mathlib.Core.Path.{_≡_, refl, _∙_}
+use mathlib.Core.Bool.{Bool, true, false}
+use mathlib.Core.List.{List, [], _∷_}
+use Prim.Native.Nat.{ℕ, _*_, _≤_, _<_}
+use native.Mathlib.Omega.{arith}
+use lib.Dec.{ltb}
+use lib.ListN.{length, getD}
+use lib.Seq.{take-length}
+use borrow.Author.Tests.{ltb-false}
+use Rattle.parse.specs.declared.order.Order.the-variants.{Less}
+use Rattle.parse.specs.Choice.{if}
+use Rattle.parse.specs.Class.{Classes, paper}
+use Rattle.parse.specs.Limit.{overLimit}
+use Rattle.parse.specs.Order.{orderOf}
+use Rattle.name.specs.Name.{validName}
+use Rattle.name.proofs.Laws.{not-empty}
+use Rattle.sort.specs.declared.name.Layout.the-variants.{Edit}
+use Rattle.sort.specs.declared.twin.Twin.{Twin}
+use Rattle.sort.specs.declared.twin.Twin.the-variants.{At, Nothing}
+use Rattle.sort.specs.Name.{nameOf, editName}
+use Rattle.sort.specs.Order.{comesFirst}
+use Rattle.sort.specs.Sorted.{insert, sorted}
+use Rattle.sort.specs.Twin.{firstTwin}
+use Rattle.sort.proofs.Pairs.{Each, each-map, Pairs, pairs-by}
+use Rattle.sort.proofs.Theorems.{no-twin-names-rise}
+use Rattle.edit.specs.declared.list.Prepared.the-variants.{Ready, ShortIndex, TooLarge}
+use Rattle.edit.specs.List.{Listed, all, malformed, badName, tooMany, editsOf, placesOf, inOrder, twinsBy, twinsOf, preparedBy, preparedOf}
+use Rattle.edit.proofs.Ordering.{length-order}
+use Rattle.merge.specs.Entry.{editsAt}
+use Rattle.merge.specs.Runs.{Above, Rising}
+use Rattle.merge.proofs.EditsSound.{IsEdit, places-edits, edit-name-valid, edit-puts}
+use Rattle.merge.proofs.Entries.{Rises}
+
+-- ---- what holds of each place holds of each place in order
+
+module _ (P : ℕ → Type 0) (lt : ℕ → ℕ → Bool) where
+  each-insert : (p : ℕ) (l : List ℕ) → P p → Each P l → Each P (insert lt p l)
+  each-insert p [] h e = (h, tt)
+  each-insert p (q ∷ l) h e = go (each-insert p l h (e .1)) (lt q p)
+    where
+      go : Each P (insert lt p l) → (t : Bool) → Each P (if t (q ∷ insert lt p l) (p ∷ q ∷ l))
+      go rest true = (e .0, rest)
+      go rest false = (h, e)
+
+  each-sorted : (l : List ℕ) → Each P l → Each P (sorted lt l)
+  unfolding sorted
+  each-sorted [] e = tt
+  each-sorted (p ∷ l) e = each-insert p (sorted lt l) (e .0) (each-sorted l (e .1))
+
+-- ---- names that rise
+
+module _ (list : List ℕ) where
+  above : (name : List ℕ) (l : List ℕ) → Each (λ p. orderOf name (editName list p) ≡ Less) l → Above list name l
+  above name [] e = tt
+  above name (p ∷ l) e = (e .0, above name l (e .1))
+
+  rising : (l : List ℕ) → Pairs (λ p q. orderOf (editName list p) (editName list q) ≡ Less) l → Rising list l
+  rising [] e = tt
+  rising (p ∷ l) e = (above (editName list p) l (e .0), rising l (e .1))
+
+  pub in-order-rising : (places : List ℕ) → firstTwin (nameOf Edit list) (inOrder list places) ≡ Nothing → Rising list (inOrder list places)
+  in-order-rising places none =
+      rising (inOrder list places)
+      (pairs-by (λ p q. orderOf (editName list p) (editName list q) ≡ Less) (inOrder list places) (no-twin-names-rise Edit list places none))
+
+-- a valid name is greater than none
+above-none : (name : List ℕ) → validName paper name ≡ true → orderOf [] name ≡ Less
+above-none [] v = cc (not-empty paper)
+above-none (b ∷ name) v = refl
+
+-- ---- a list that has no fault and no twins
+
+module _ (n : ℕ) (list places : List ℕ) (listed : editsOf paper n list ≡ all places) where
+  pub in-order-edits : Each (IsEdit paper n list) (inOrder list places)
+  in-order-edits = each-sorted (IsEdit paper n list) (comesFirst Edit list) places (places-edits paper n list places listed .0)
+
+  module _ (half : ℕ) (even : n ≡ 2 * half) (bytes : (i : ℕ) → getD list i 0 < 256) where
+    rises : (last l : List ℕ) → Each (IsEdit paper n list) l → Above list last l → Rising list l → Rises n last (editsAt n list l)
+    rises last [] e a r = tt
+    rises last (p ∷ l) e a r = (a .0, edit-puts n list p (e .0) half even bytes, rises (editName list p) l (e .1) (r .0) (r .1))
+
+    pub in-order-rises : firstTwin (nameOf Edit list) (inOrder list places) ≡ Nothing → Rises n [] (editsAt n list (inOrder list places))
+    in-order-rises none =
+        let names =
+        each-map (IsEdit paper n list) (λ p. orderOf [] (editName list p) ≡ Less)
+        (λ p w. above-none (editName list p) (edit-name-valid n list p w)) (inOrder list places) in-order-edits
+        in
+        rises [] (inOrder list places) in-order-edits (above list [] (inOrder list places) names) (in-order-rising list places none)
+
+-- ---- what Ready says of the list
+
+pub record Readied (byte : Classes) (n : ℕ) (list : List ℕ) (room k : ℕ) : Type 0 where
+  pub listed : editsOf byte n list ≡ all (placesOf (editsOf byte n list))
+  pub count : length (placesOf (editsOf byte n list)) ≡ k
+  pub in-order : length (inOrder list (placesOf (editsOf byte n list))) ≡ k
+  pub room-enough : k ≤ room
+  pub few : k ≤ 4096
+  pub no-twin : firstTwin (nameOf Edit list) (inOrder list (placesOf (editsOf byte n list))) ≡ Nothing
+
+module _ (byte : Classes) (n : ℕ) (list : List ℕ) (room k : ℕ) where
+  ready-twin : (count : ℕ) (t : Twin) → twinsBy count t ≡ Ready k → (count ≡ k) × (t ≡ Nothing)
+  ready-twin count (At place) e = absurd (let z : _≡_ {A = ℕ} 0 1 = cc in omega arith)
+  ready-twin count Nothing e = (cc, refl)
+
+  ready-all : (l : List ℕ) → editsOf byte n list ≡ all l → preparedBy list room (all l) ≡ Ready k → Readied byte n list room k
+  unfolding twinsOf
+  ready-all l q e = go (ltb room (length l)) refl e
+    where
+      go : (t : Bool) → ltb room (length l) ≡ t → if t ShortIndex (twinsBy (length l) (firstTwin (nameOf Edit list) (inOrder list l))) ≡ Ready k
+          → Readied byte n list room k
+      go true p e = absurd (let z : _≡_ {A = ℕ} 0 1 = cc in omega arith)
+      go false p e =
+          let (count, no-twin) = ready-twin (length l) (firstTwin (nameOf Edit list) (inOrder list l)) e in
+          let long : length (inOrder list l) ≡ length l = rw (take-length l) at (length-order list l (length l) (omega arith)) in
+          record {
+            listed = rw q;
+            count = rw q count;
+            in-order = rw q (long ∙ count);
+            room-enough = omega (arith, ltb-false room (length l) p);
+            few = omega (arith, places-edits byte n list l q .1);
+            no-twin = rw q no-twin;
+          }
+
+  pub readied : preparedOf byte n list room ≡ Ready k → Readied byte n list room k
+  unfolding preparedOf
+  readied e = go (overLimit (length list)) (editsOf byte n list) refl e
+    where
+      go : (t : Bool) (x : Listed) → editsOf byte n list ≡ x → if t TooLarge (preparedBy list room x) ≡ Ready k → Readied byte n list room k
+      go true x q e = absurd (let z : _≡_ {A = ℕ} 0 1 = cc in omega arith)
+      go false (all l) q e = ready-all l q e
+      go false (malformed p) q e = absurd (let z : _≡_ {A = ℕ} 0 1 = cc in omega arith)
+      go false (badName p) q e = absurd (let z : _≡_ {A = ℕ} 0 1 = cc in omega arith)
+      go false (tooMany p) q e = absurd (let z : _≡_ {A = ℕ} 0 1 = cc in omega arith)

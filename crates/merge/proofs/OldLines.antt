@@ -1,0 +1,181 @@
+-- The bytes of a good record without their CRs are the lines of its entry: only the CRs of its line ends go.
+use mathlib.Core.Path.{_≡_, refl, sym, ap, _∙_}
+use mathlib.Core.Bool.{true, false, not, and-eq-true-iff}
+use mathlib.Core.List.{List, [], _∷_, _++_, append-nil}
+use mathlib.Core.Option.{none, some}
+use Prim.Native.Nat.{ℕ, zero, suc, _+_, _-_, _≤_, _<_}
+use native.Mathlib.Numerals.{add-one}
+use native.Mathlib.Omega.{arith}
+use lib.ListN.{length, getD, take, drop, length-drop}
+use lib.Seq.{take-take, take-add}
+use borrow.Author.Tests.{ne-eqb}
+use Rattle.parse.specs.Class.{paper, isHex, isLineEnd}
+use Rattle.parse.specs.Run.{span}
+use Rattle.parse.specs.Line.{eol}
+use Rattle.parse.proofs.Fronts.{at-drop, Eol, lf, crlf, eol-view}
+use Rattle.parse.proofs.Fronts as fronts
+use Rattle.parse.proofs.Slices.{part-of-front}
+use Rattle.name.specs.Name.{validName}
+use Rattle.name.proofs.Laws.{valid-text}
+use Rattle.decode.specs.declared.reference.Record.{Record}
+use Rattle.decode.specs.declared.reference.Reading.the-variants.{Good}
+use Rattle.decode.specs.Record.{recordOf}
+use Rattle.decode.proofs.Records.{nameLen, afterName, headLen, peelLen, Head, Peel, View, is-bad, plain, peeled, view, fits}
+use Rattle.iter.specs.Items.{Item, sizeOf, itemOf, items, nameOf}
+use Rattle.iter.specs.Passes.{isGood, allGood}
+use Rattle.iter.proofs.Items.{size-good, size-some, items-nil, items-step}
+use Rattle.iter.proofs.Turns.{item-name}
+use Rattle.put.specs.Text.{notCR, withoutCR}
+use Rattle.put.proofs.Laws.{without-append, without-none}
+use Rattle.merge.specs.Entry.{recordLine, objectLine, linesOf, objectIn, entryOf}
+use Rattle.merge.proofs.OldSound.{front-digits}
+
+-- ---- ids and names hold no CR, and a line end without its CR is LF
+
+hex-no-cr : (b : ℕ) → isHex b ≡ true → notCR b ≡ true
+unfolding isHex
+hex-no-cr b h = ap not (ne-eqb b 13 (λ e. let z : isHex 13 ≡ true = rw e at h in let w : _≡_ {A = ℕ} 0 1 = cc in omega arith))
+
+text-no-cr : (b : ℕ) → isLineEnd b ≡ false → notCR b ≡ true
+unfolding isLineEnd
+text-no-cr b h = ap not (ne-eqb b 13 (λ e. let z : isLineEnd 13 ≡ false = rw e at h in let w : _≡_ {A = ℕ} 0 1 = cc in omega arith))
+
+id-kept : (n : ℕ) (s : List ℕ) → n ≤ span isHex s → withoutCR (take n s) ≡ take n s
+id-kept n s h =
+    let d = front-digits n s h in
+    without-none (take n s) (λ i l. hex-no-cr (getD (take n s) i 0) (d .hex i (omega (arith, d .long))))
+
+name-kept : (name : List ℕ) → validName paper name ≡ true → withoutCR name ≡ name
+name-kept name v = without-none name (λ i l. text-no-cr (getD name i 0) (valid-text name v i l))
+
+end-kept : (s : List ℕ) → 0 < eol s → withoutCR (take (eol s) s) ≡ 10 ∷ []
+end-kept s h = go (eol-view s)
+  where
+    one : (s : List ℕ) → getD s 0 0 ≡ 10 → withoutCR (take 1 s) ≡ 10 ∷ []
+    one [] e = absurd (omega arith)
+    one (b ∷ s) e = rw e
+
+    two : (s : List ℕ) → getD s 0 0 ≡ 13 → getD s 1 0 ≡ 10 → withoutCR (take 2 s) ≡ 10 ∷ []
+    two [] e f = absurd (omega arith)
+    two (b ∷ []) e f = absurd (omega arith)
+    two (b ∷ c ∷ s) e f = rw (e, f)
+
+    go : Eol s → withoutCR (take (eol s) s) ≡ 10 ∷ []
+    go (fronts.none e) = absurd (omega arith)
+    go (lf a e) = rw e (one s a)
+    go (crlf a b e) = rw e (two s a b)
+
+-- ---- the two lines of a record
+
+record-without : (id name end : List ℕ) → withoutCR id ≡ id → withoutCR name ≡ name → withoutCR end ≡ 10 ∷ []
+    → withoutCR (id ++ 32 ∷ (name ++ end)) ≡ recordLine id name
+record-without id name end p q r = rw (without-append id (32 ∷ (name ++ end)), p, without-append name end, q, r)
+
+object-without : (id end : List ℕ) → withoutCR id ≡ id → withoutCR end ≡ 10 ∷ [] → withoutCR (94 ∷ (id ++ end)) ≡ objectLine id
+object-without id end p r = rw (without-append id end, p, r)
+
+module _ (n : ℕ) (s : List ℕ) where
+  abbrev size : ℕ
+  size = headLen paper n s
+
+  abbrev name : List ℕ
+  name = take (nameLen paper n s) (drop (suc n) s)
+
+  -- the first line: the id, a space, the name and the line end
+  first-line : Head paper n s → withoutCR (take size s) ≡ recordLine (take n s) name
+  unfolding headLen
+  first-line h =
+      let after = afterName paper n s in
+      let k = nameLen paper n s in
+      let z : suc n + k + eol after ≡ n + suc (k + eol after) = omega arith in
+      let cut : take (suc n + k + eol after) s ≡ take n s ++ 32 ∷ (name ++ take (eol after) after) =
+      rw (z, take-add n (suc (k + eol after)) s, at-drop 32 (omega arith) n s (h .space), take-add k (eol after) (drop (suc n) s)) in
+      ap withoutCR cut
+      ∙ record-without (take n s) name (take (eol after) after) (id-kept n s (h .id)) (name-kept name (h .name)) (end-kept after (h .end))
+
+  -- the second line, behind it: `^`, the peeled id and the line end
+  abbrev object : List ℕ
+  object = take n (drop (suc size) s)
+
+  second-line : getD s size 0 ≡ 94 → Peel paper n (drop size s) → withoutCR (take (peelLen paper n (drop size s)) (drop size s)) ≡ objectLine object
+  unfolding peelLen
+  second-line c p =
+      let second = drop (suc size) s in
+      let caret : drop size s ≡ 94 ∷ second = at-drop 94 (omega arith) size s c in
+      let id : n ≤ span isHex second = rw caret at (p .id) in
+      let end : 0 < eol (drop n second) = rw caret at (p .end) in
+      let z : suc n + eol (drop n second) ≡ suc (n + eol (drop n second)) = omega arith in
+      let cut : take (suc n + eol (drop n second)) (94 ∷ second) ≡ 94 ∷ (object ++ take (eol (drop n second)) (drop n second)) =
+      rw (z, take-add n (eol (drop n second)) second) in
+      rw caret
+      (ap withoutCR cut ∙ object-without object (take (eol (drop n second)) (drop n second)) (id-kept n second id) (end-kept (drop n second) end))
+
+  -- ---- the entry of a good record, by its parts in all the bytes
+
+  module _ (r : Record) (e : recordOf paper n s ≡ Good r) (z : r .name ≡ nameLen paper n s) where
+    id-is : take n (take (sizeOf paper n s) s) ≡ take n s
+    id-is = take-take n (sizeOf paper n s) s (omega (arith, size-good paper n s r e, fits paper n s r e .holds))
+
+    name-is : nameOf n (itemOf paper n s) ≡ name
+    name-is = rw (item-name paper n s r e, z, add-one n)
+
+    entry-plain : r .object ≡ 0 → entryOf n (itemOf paper n s) ≡ record { name = name; id = take n s; object = none }
+    entry-plain o =
+        let w : objectIn n (recordOf paper n s) (take (sizeOf paper n s) s) ≡ none = rw (e, o) in
+        λ i. record { name = name-is i; id = id-is i; object = w i }
+
+    entry-peeled : r .object ≡ suc size → suc size + n ≤ r .size
+        → entryOf n (itemOf paper n s) ≡ record { name = name; id = take n s; object = some object }
+    entry-peeled o l =
+        let k = sizeOf paper n s in
+        let inside : suc size + n ≤ k = omega (arith, size-good paper n s r e) in
+        let w : objectIn n (recordOf paper n s) (take k s) ≡ some object = rw (e, o, part-of-front n (suc size) k s inside) in
+        λ i. record { name = name-is i; id = id-is i; object = w i }
+
+  peeled-inside : suc size + n ≤ size + peelLen paper n (drop size s)
+  unfolding peelLen
+  peeled-inside = omega arith
+
+  item-lines : isGood (recordOf paper n s) ≡ true → withoutCR (take (sizeOf paper n s) s) ≡ linesOf (entryOf n (itemOf paper n s))
+  item-lines g = go (view paper n s)
+    where
+      go : View paper n s → withoutCR (take (sizeOf paper n s) s) ≡ linesOf (entryOf n (itemOf paper n s))
+      go (is-bad f w q) = absurd (let z : _≡_ {A = ℕ} 0 1 = cc in omega arith)
+      go (plain h c q) =
+          ap (λ k. withoutCR (take k s)) (size-good paper n s _ q)
+          ∙ first-line h
+          ∙ sym (append-nil (recordLine (take n s) name))
+          ∙ ap linesOf (sym (entry-plain _ q refl refl))
+      go (peeled h c p q) =
+          let k = peelLen paper n (drop size s) in
+          ap (λ k. withoutCR (take k s)) (size-good paper n s _ q)
+          ∙ ap withoutCR (take-add size k s)
+          ∙ without-append (take size s) (take k (drop size s))
+          ∙ ap (λ l. l ++ withoutCR (take k (drop size s))) (first-line h)
+          ∙ ap (λ l. recordLine (take n s) name ++ l) (second-line c p)
+          ∙ ap linesOf (sym (entry-peeled _ q refl refl peeled-inside))
+
+  pub good-lines : (r : Record) → recordOf paper n s ≡ Good r → withoutCR (take (r .size) s) ≡ linesOf (entryOf n (itemOf paper n s))
+  good-lines r e = ap (λ k. withoutCR (take k s)) (sym (size-good paper n s r e)) ∙ item-lines (ap isGood e)
+
+-- ---- all items of some bytes
+
+abbrev pub AllPlain : ℕ → List Item → Type 0
+AllPlain n [] = Unit {0}
+AllPlain n (i ∷ l) = (withoutCR (i .bytes) ≡ linesOf (entryOf n i)) × AllPlain n l
+
+module _ (n : ℕ) where
+  -- by a bound of the bytes' length: the items behind the first are those of fewer bytes
+  plain-by : (f : ℕ) (s : List ℕ) → length s ≤ f → allGood (items paper n s) ≡ true → AllPlain n (items paper n s)
+  plain-by zero [] h g = rw (items-nil paper n) tt
+  plain-by (suc f) [] h g = rw (items-nil paper n) tt
+  plain-by zero (b ∷ s) h g = absurd (omega arith)
+  plain-by (suc f) (b ∷ s) h g =
+      let k = sizeOf paper n (b ∷ s) in
+      let l : length (drop k (b ∷ s)) ≡ suc (length s) - k = length-drop k (b ∷ s) in
+      let step = items-step paper n (b ∷ s) (omega arith) in
+      let (first, rest) = and-eq-true-iff (isGood (recordOf paper n (b ∷ s))) (allGood (items paper n (drop k (b ∷ s)))) .0 (rw step at g) in
+      rw step (item-lines n (b ∷ s) first, plain-by f (drop k (b ∷ s)) (omega (arith, size-some paper n (b ∷ s) (omega arith))) rest)
+
+  pub olds-plain : (s : List ℕ) → allGood (items paper n s) ≡ true → AllPlain n (items paper n s)
+  olds-plain s g = plain-by (length s) s (omega arith) g

@@ -1,0 +1,125 @@
+-- The lines of an entry read as a record, and that record is the entry.
+use mathlib.Core.Path.{_≡_, refl, sym, ap, _∙_}
+use mathlib.Core.Bool.{true}
+use mathlib.Core.List.{List, [], _∷_, _++_, append-assoc, append-nil}
+use mathlib.Core.Option.{Option, none, some}
+use Prim.Native.Nat.{ℕ, suc, _+_}
+use native.Mathlib.Numerals.{add-one}
+use native.Mathlib.Omega.{arith}
+use lib.ListN.{getD, length, take, drop, length-append}
+use lib.Seq.{take-at, take-append-seam}
+use Rattle.parse.specs.Class.{paper}
+use Rattle.name.specs.Name.{validName}
+use Rattle.decode.specs.declared.reference.Record.{Record}
+use Rattle.decode.specs.declared.reference.Reading.{Reading}
+use Rattle.decode.specs.declared.reference.Reading.the-variants.{Good}
+use Rattle.decode.specs.Record.{recordOf}
+use Rattle.decode.proofs.Records.{headLen, peelLen, Peel, plain-is, peeled-is}
+use Rattle.iter.specs.Items.{Item, nameOf}
+use Rattle.merge.specs.Entry.{Entry, recordLine, objectLine, objectLines, linesOf, objectAt, entryOf}
+use Rattle.merge.proofs.Entries.{Digits, DigitsIf, Sound}
+use Rattle.merge.proofs.WrittenLines.{behind, lineThen, name-len, line-head, head-len, behind-head, byte-behind, line-peel, peel-len}
+
+-- where the peeled id stands behind a first line of some length: behind the `^`
+abbrev pub objectPlace : ℕ → Option (List ℕ) → ℕ
+objectPlace first none = 0
+objectPlace first (some id) = suc first
+
+-- what the lines of an entry read as, and the item that they are
+abbrev pub readingOf : Entry → Record
+readingOf e =
+    record {
+      name = length (e .name);
+      object = objectPlace (length (recordLine (e .id) (e .name))) (e .object);
+      size = length (linesOf e);
+    }
+
+abbrev pub written : Entry → Item
+written e = record { what = Good (readingOf e); bytes = linesOf e }
+
+good-alike : {a a′ o o′ z z′ : ℕ} → a ≡ a′ → o ≡ o′ → z ≡ z′
+    → _≡_ {A = Reading} (Good (record { name = a; object = o; size = z })) (Good (record { name = a′; object = o′; size = z′ }))
+good-alike p q r = λ i. Good (record { name = p i; object = q i; size = r i })
+
+-- a first line, and any bytes behind it
+laid : (id name t : List ℕ) → recordLine id name ++ t ≡ lineThen id name t
+laid id name t = simp append-assoc
+
+-- ---- reading
+
+module _ {n : ℕ} {id : List ℕ} (digits : Digits n id) (name : List ℕ) (valid : validName paper name ≡ true) where
+  first-len : length (recordLine id name) ≡ suc n + length name + 1
+  first-len = omega (arith, length-append id (32 ∷ (name ++ 10 ∷ [])), length-append name (10 ∷ []), digits .long)
+
+  read-plain : (rest : List ℕ) → (getD rest 0 0 ≡ 94 → ⊥)
+      → recordOf paper n (recordLine id name ++ rest) ≡ Good (record { name = length name; object = 0; size = length (recordLine id name) })
+  read-plain rest other =
+      ap (recordOf paper n) (laid id name rest)
+      ∙ plain-is paper n (lineThen id name rest) (line-head digits name valid rest) (λ z. other (sym (byte-behind digits name valid rest) ∙ z))
+      ∙ good-alike (name-len digits name valid rest) refl (omega (arith, head-len digits name valid rest, first-len))
+
+  module _ {object : List ℕ} (more : Digits n object) (rest : List ℕ) where
+    abbrev second : List ℕ
+    second = objectLine object ++ rest
+
+    abbrev both : List ℕ
+    both = lineThen id name second
+
+    second-laid : second ≡ 94 ∷ (object ++ 10 ∷ rest)
+    second-laid = simp append-assoc
+
+    peel : Peel paper n (drop (headLen paper n both) both)
+    peel = rw (behind-head digits name valid second, second-laid) (line-peel more rest)
+
+    second-len : peelLen paper n (drop (headLen paper n both) both) ≡ length (objectLine object)
+    second-len =
+        rw (behind-head digits name valid second, second-laid)
+        (omega (arith, peel-len more rest, length-append object (10 ∷ []), more .long))
+
+    read-peeled : recordOf paper n (recordLine id name ++ second)
+        ≡ Good (record { name = length name; object = suc (length (recordLine id name)); size = length (recordLine id name) + length (objectLine object) })
+    read-peeled =
+        let h : headLen paper n both ≡ length (recordLine id name) = omega (arith, head-len digits name valid second, first-len) in
+        ap (recordOf paper n) (laid id name second)
+        ∙ peeled-is paper n both (line-head digits name valid second) (byte-behind digits name valid second) peel
+        ∙ good-alike (name-len digits name valid second) (ap suc h) (omega (arith, second-len))
+
+  read-lines : (o : Option (List ℕ)) → DigitsIf n o → (rest : List ℕ) → (getD rest 0 0 ≡ 94 → ⊥)
+      → recordOf paper n ((recordLine id name ++ objectLines o) ++ rest)
+      ≡ Good (record { name = length name; object = objectPlace (length (recordLine id name)) o; size = length (recordLine id name ++ objectLines o) })
+  read-lines none d rest other = rw (append-nil (recordLine id name)) (read-plain rest other)
+  read-lines (some object) d rest other =
+      rw (append-assoc (recordLine id name) (objectLine object) rest, length-append (recordLine id name) (objectLine object)) (read-peeled d rest)
+
+-- a record without a peeled id ends where no `^` follows
+pub read-one : (n : ℕ) (e : Entry) → Sound n e → (rest : List ℕ) → (getD rest 0 0 ≡ 94 → ⊥) → recordOf paper n (linesOf e ++ rest) ≡ Good (readingOf e)
+read-one n e s rest other = read-lines (s .id) (e .name) (s .name) (e .object) (s .object) rest other
+
+-- the lines of an entry, and any bytes behind them
+pub lines-then : (e : Entry) (rest : List ℕ) → linesOf e ++ rest ≡ lineThen (e .id) (e .name) (objectLines (e .object) ++ rest)
+lines-then e rest = simp append-assoc
+
+-- ---- the entry again
+
+module _ (n : ℕ) (e : Entry) (s : Sound n e) where
+  lines-laid : linesOf e ≡ lineThen (e .id) (e .name) (objectLines (e .object))
+  lines-laid = laid (e .id) (e .name) (objectLines (e .object))
+
+  pub name-back : nameOf n (written e) ≡ e .name
+  name-back =
+      rw (add-one n, lines-laid, behind (e .id) 32 (e .name ++ 10 ∷ objectLines (e .object)) n (s .id .long))
+      (take-append-seam (e .name) (10 ∷ objectLines (e .object)))
+
+  id-back : take n (linesOf e) ≡ e .id
+  id-back = rw lines-laid (take-at (e .id) (32 ∷ (e .name ++ 10 ∷ objectLines (e .object))) n (s .id .long))
+
+  abbrev first : List ℕ
+  first = recordLine (e .id) (e .name)
+
+  object-back : (o : Option (List ℕ)) → DigitsIf n o → objectAt n (first ++ objectLines o) (objectPlace (length first) o) ≡ o
+  object-back none d = refl
+  object-back (some object) d =
+      ap some (ap (take n) (behind first 94 (object ++ 10 ∷ []) (length first) refl) ∙ take-at object (10 ∷ []) n (d .long))
+
+  pub entry-back : entryOf n (written e) ≡ e
+  entry-back = λ i. record { name = name-back i; id = id-back i; object = object-back (e .object) (s .object) i }

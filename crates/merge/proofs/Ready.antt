@@ -1,0 +1,76 @@
+-- The index once the edit list is ready, and what comes of a list and of a header.
+use mathlib.Core.Path.{_≡_, refl, ap, _∙_}
+use mathlib.Core.Bool.{Bool, true, false}
+use mathlib.Core.List.{List, _++_}
+use Prim.Native.Nat.{ℕ}
+use native.Mathlib.Omega.{arith}
+use lib.ListN.{length, take, drop}
+use lib.Seq.{take-at}
+use borrow.Author.Tests.{le-ltb}
+use Rattle.parse.specs.Choice.{if}
+use Rattle.parse.specs.Class.{Classes}
+use Rattle.parse.specs.Limit.{overLimit}
+use Rattle.decode.specs.declared.header.Header.{Header}
+use Rattle.decode.specs.declared.header.Opened.the-variants as opened
+use Rattle.decode.specs.Header.{headerOf}
+use Rattle.iter.specs.Check.{judgeBody, checkOf}
+use Rattle.iter.specs.Items.{items}
+use Rattle.edit.specs.declared.list.Prepared.{Prepared}
+use Rattle.edit.specs.declared.list.Prepared.the-variants.{Ready, TooLarge}
+use Rattle.edit.specs.List.{editsOf, placesOf, inOrder, preparedBy, preparedOf, indexBy, indexAfter}
+use Rattle.merge.specs.declared.Merged.the-variants.{BadHeader}
+use Rattle.merge.specs.Entry.{Edit, entriesOf}
+use Rattle.merge.specs.Merge.{oldEntries, judgedBy, judged, listed, mergeOf}
+use Rattle.merge.proofs.EditsRise.{Readied, readied}
+
+-- ---- the index
+
+module _ (byte : Classes) (n : ℕ) (list index : List ℕ) (k : ℕ) (e : preparedOf byte n list (length index) ≡ Ready k) where
+  abbrev pub places : List ℕ
+  places = inOrder list (placesOf (editsOf byte n list))
+
+  not-large : overLimit (length list) ≡ false
+  unfolding preparedOf
+  not-large = go (overLimit (length list)) e
+    where
+      go : (t : Bool) → if t TooLarge (preparedBy list (length index) (editsOf byte n list)) ≡ Ready k → t ≡ false
+      go true q = absurd (let z : _≡_ {A = ℕ} 0 1 = cc in omega arith)
+      go false q = refl
+
+  pub ready : Readied byte n list (length index) k
+  ready = readied byte n list (length index) k e
+
+  index-is : indexAfter byte n list index ≡ places ++ drop (length (placesOf (editsOf byte n list))) index
+  unfolding indexAfter
+  index-is =
+      ap (λ t. if t index (indexBy list index (editsOf byte n list))) not-large
+      ∙ ap (indexBy list index) (ready .listed)
+      ∙ ap (λ t. if t index (places ++ drop (length (placesOf (editsOf byte n list))) index))
+      (le-ltb (length index) (length (placesOf (editsOf byte n list))) (omega (arith, ready .count, ready .room-enough)))
+
+  -- its first entries are the edits' places in name order
+  pub front-is : take k (indexAfter byte n list index) ≡ places
+  front-is = ap (take k) index-is ∙ take-at places (drop (length (placesOf (editsOf byte n list))) index) k (ready .in-order)
+
+-- ---- by what was found of the list
+
+module _ (byte : Classes) (n : ℕ) (file list : List ℕ) (indexRoom room : ℕ) where
+  pub merge-by-list : (p : Prepared) → preparedOf byte n list indexRoom ≡ p → mergeOf byte n file list indexRoom room ≡ listed byte n file list room p
+  unfolding mergeOf
+  merge-by-list p e = ap (listed byte n file list room) e
+
+-- ---- by what was found of the header
+
+module _ (byte : Classes) (n : ℕ) (file : List ℕ) (edits : List Edit) (room : ℕ) where
+  pub bad-header : (text : ℕ) → headerOf byte file ≡ opened.Unreadable text → judged byte n file edits room ≡ BadHeader text
+  unfolding judged checkOf
+  bad-header text e = rw e
+
+  module _ (h : Header) (e : headerOf byte file ≡ opened.Header h) where
+    pub old-entries : oldEntries byte n file ≡ entriesOf n (items byte n (drop (h .body) file))
+    unfolding oldEntries
+    old-entries = rw e
+
+    pub good-header : judged byte n file edits room ≡ judgedBy (entriesOf n (items byte n (drop (h .body) file))) edits room (judgeBody byte n file (h .body))
+    unfolding judged checkOf
+    good-header = rw (e, old-entries)

@@ -1,0 +1,86 @@
+-- `merge::merge` meets its contract: 1 and 17 first, and the table is made.
+use mathlib.Core.Path.{_≡_, sym, ap, _∙_}
+use lib.ListN.{length}
+use Rattle.parse.specs.Limit.{admission}
+use Rattle.parse.specs.Class.{paper}
+use Rattle.merge.specs.Merge.{newFile, oldEntries, editsInOrder, outputBy, mergeAnswer, indexAnswer, outputAfter}
+use Rattle.merge.proofs.Admitted.{admitted}
+use borrow.Author.Needs.{needs}
+use Rattle.merge.proofs.merge.Statement.{statement}
+use Rattle.merge.proofs.merge.Tie as tie
+
+-- 1 and 17 were asked
+module _ (a : tie.After-admit) where
+  abbrev start : tie.Start
+  start = a .before .before .before .before .before
+
+  said : admission (start .args .kind) (length (start .args .old .now)) (length (start .args .list .now)) ≡ a .admit .result
+  said = sym (a .admit .ensures)
+
+admit-requires : tie.Need-admit-requires
+admit-requires c κs = search needs
+
+enum-known-n : tie.Need-enum-known-n
+enum-known-n c = search needs
+
+table-requires : tie.Need-table-requires
+table-requires c κs = search needs
+
+merge-by-requires : tie.Need-merge-by-requires
+merge-by-requires c κs =
+    let k = c .before .before .before .before .before in
+    let a = k .before .before in
+    let s = start a .args in
+    let is = admitted (s .kind) (length (s .old .now)) (length (s .list .now)) (k .n .given .0 .0) (said a ∙ k .n .given .1) in
+    (c .before .before .before .table .ensures, is .0, is .1, is .2)
+
+enum-told : tie.Need-enum-told
+enum-told c = search needs
+
+enum-told-2 : tie.Need-enum-told-2
+enum-told-2 c = search needs
+
+same-length : tie.Need-same-length
+same-length c = search needs
+
+same-length-2 : tie.Need-same-length-2
+same-length-2 c = search needs
+
+returns : tie.Need-returns
+unfolding mergeAnswer indexAnswer outputAfter
+returns c =
+    let m = c .before .before .before .before in
+    let k = m .before .before .before .before .before .before in
+    let is = said (k .before .before) ∙ k .n .given .1 in
+    let s = start (k .before .before) .args in
+    let n = k .n .given .0 .0 in
+    let new = newFile (oldEntries paper n (s .old .now)) (editsInOrder paper n (s .old .now) (s .list .now)) in
+    (rw is (m .merge-by .ensures .0), (rw is (m .merge-by .ensures .1 .0), rw is (m .merge-by .ensures .1 .1 ∙ ap (outputBy new (s .out .now)) (m .merge-by .ensures .0))))
+
+returns-2 : tie.Need-returns-2
+unfolding mergeAnswer indexAnswer outputAfter
+returns-2 c =
+    let is = said (c .before .before) ∙ c .enum-told .given .1 in
+    (rw is, (rw is, rw is))
+
+returns-3 : tie.Need-returns-3
+unfolding mergeAnswer indexAnswer outputAfter
+returns-3 c =
+    let is = said (c .before .before) ∙ c .enum-told2 .given .1 in
+    (rw is, (rw is, rw is))
+
+pub merge-spec : {M : Type 1} → statement M
+merge-spec =
+    tie.close
+    (tie.spec
+    admit-requires
+    enum-known-n
+    table-requires
+    merge-by-requires
+    enum-told
+    enum-told-2
+    same-length
+    same-length-2
+    returns
+    returns-2
+    returns-3)

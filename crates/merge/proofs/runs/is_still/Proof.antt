@@ -1,0 +1,122 @@
+-- `merge::runs::is_still` meets its contract: what is left decides as long as nothing has.
+use mathlib.Core.Path.{_≡_, refl, sym, _∙_}
+use mathlib.Core.List.{List}
+use Prim.Native.Nat.{ℕ, _*_, _-_, _≤_, _<_}
+use lib.ListN.{length, drop}
+use Rattle.merge.specs.Runs.{isStill}
+use Rattle.merge.proofs.Still.{still-end, still-update, still-run, still-on}
+use borrow.Author.Needs.{needs}
+use Rattle.merge.proofs.runs.is_still.Statement.{statement}
+use Rattle.merge.proofs.runs.is_still.Tie as tie
+
+abbrev Inv-loop : tie.InvT-loop
+Inv-loop list index marks j₀ j = (j ≤ length index) × (isStill list (drop j index) (drop (2 * j) marks) ≡ isStill list index marks)
+
+abbrev μ-loop : tie.MeasureT-loop
+μ-loop list index marks j₀ j = length index - j
+
+-- ---- what is known at each place of a turn
+
+module _ (l : tie.At-loop Inv-loop μ-loop) where
+  abbrev list : List ℕ
+  list = l .before .before .before .before .args .list .now
+
+  abbrev index : List ℕ
+  index = l .before .before .before .before .args .index .now
+
+  abbrev marks : List ℕ
+  marks = l .before .before .before .before .args .marks .now
+
+-- the edit's kind is read
+module _ (k : tie.After-kind-at Inv-loop μ-loop) where
+  abbrev turn : tie.At-loop Inv-loop μ-loop
+  turn = k .before .before .before
+
+  inside : turn .loop .j < length (index turn)
+  inside = search needs
+
+loop-holds : tie.Need-loop-holds Inv-loop μ-loop
+loop-holds c = (search needs, refl)
+
+mul-kind-at : tie.Need-mul-kind-at Inv-loop μ-loop
+mul-kind-at c = search needs
+
+shared-slice-read-kind-at : tie.Need-shared-slice-read-kind-at Inv-loop μ-loop
+shared-slice-read-kind-at c = search needs
+
+kind-at-requires : tie.Need-kind-at-requires Inv-loop μ-loop
+kind-at-requires c κs = search needs
+
+returns : tie.Need-returns Inv-loop μ-loop
+returns c =
+    let k = c .before in
+    let l = turn k in
+    sym (still-update (list l) (index l) (marks l) (l .loop .j) (inside k) (λ z. c .if1 .taken (k .kind-at .ensures ∙ z))) ∙ l .loop .inv .1
+
+mul-if2 : tie.Need-mul-if2 Inv-loop μ-loop
+mul-if2 c = search needs
+
+mul-if2-2 : tie.Need-mul-if2-2 Inv-loop μ-loop
+mul-if2-2 c = search needs
+
+shared-slice-read-if2 : tie.Need-shared-slice-read-if2 Inv-loop μ-loop
+shared-slice-read-if2 c = search needs
+
+mul-if2-3 : tie.Need-mul-if2-3 Inv-loop μ-loop
+mul-if2-3 c = search needs
+
+add-if2 : tie.Need-add-if2 Inv-loop μ-loop
+add-if2 c = search needs
+
+mul-if2-4 : tie.Need-mul-if2-4 Inv-loop μ-loop
+mul-if2-4 c = search needs
+
+shared-slice-read-if2-2 : tie.Need-shared-slice-read-if2-2 Inv-loop μ-loop
+shared-slice-read-if2-2 c = search needs
+
+returns-2 : tie.Need-returns-2 Inv-loop μ-loop
+returns-2 c =
+    let k = c .before .before .before .before in
+    let l = turn k in
+    sym (still-run (list l) (index l) (marks l) (l .loop .j) (inside k) (sym (k .kind-at .ensures) ∙ c .before .before .before .if1 .left) (c .if2 .taken)) ∙ l .loop .inv .1
+
+add-j : tie.Need-add-j Inv-loop μ-loop
+add-j c = search needs
+
+loop-less : tie.Need-loop-less Inv-loop μ-loop
+loop-less c = search needs
+
+loop-again : tie.Need-loop-again Inv-loop μ-loop
+loop-again c =
+    let k = c .before .before .before .before in
+    let l = turn k in
+    (search needs, sym (still-on (list l) (index l) (marks l) (l .loop .j) (inside k) (sym (k .kind-at .ensures) ∙ c .before .before .before .if1 .left) (c .if2 .left)) ∙ l .loop .inv .1)
+
+returns-3 : tie.Need-returns-3 Inv-loop μ-loop
+returns-3 c =
+    let l = c .before in
+    sym (still-end (list l) (index l) (marks l) (l .loop .j) (c .loop-test .left)) ∙ l .loop .inv .1
+
+pub is-still-spec : {M : Type 1} → statement M
+is-still-spec =
+    tie.close
+    (tie.spec
+    Inv-loop
+    μ-loop
+    loop-holds
+    mul-kind-at
+    shared-slice-read-kind-at
+    kind-at-requires
+    returns
+    mul-if2
+    mul-if2-2
+    shared-slice-read-if2
+    mul-if2-3
+    add-if2
+    mul-if2-4
+    shared-slice-read-if2-2
+    returns-2
+    add-j
+    loop-less
+    loop-again
+    returns-3)

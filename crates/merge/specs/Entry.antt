@@ -1,0 +1,77 @@
+-- A record of the new file, and an edit.
+use mathlib.Core.List.{List, [], _∷_, _++_}
+use mathlib.Core.Option.{Option, none, some}
+use Prim.Native.Nat.{ℕ, zero, suc, _/_}
+use lib.ListN.{getD, take, drop}
+use Rattle.decode.specs.declared.reference.Reading.{Reading}
+use Rattle.decode.specs.declared.reference.Reading.the-variants.{Good, Bad}
+use Rattle.iter.specs.Items.{Item, nameOf}
+use Rattle.sort.specs.Name.{editName}
+use Rattle.edit.specs.Change.{behindName}
+use Rattle.put.specs.Text.{hexText}
+
+-- a record: its name, its id, and its peeled id if it has one, both in digits
+pub record Entry : Type 0 where
+  pub name : List ℕ
+  pub id : List ℕ
+  pub object : Option (List ℕ)
+
+-- "every line ends in LF": 10. A space is 32, `^` is 94
+abbrev pub recordLine : List ℕ → List ℕ → List ℕ
+recordLine id name = id ++ 32 ∷ (name ++ 10 ∷ [])
+
+abbrev pub objectLine : List ℕ → List ℕ
+objectLine id = 94 ∷ (id ++ 10 ∷ [])
+
+abbrev pub objectLines : Option (List ℕ) → List ℕ
+objectLines none = []
+objectLines (some id) = objectLine id
+
+abbrev pub linesOf : Entry → List ℕ
+linesOf e = recordLine (e .id) (e .name) ++ objectLines (e .object)
+
+abbrev pub linesOfAll : List Entry → List ℕ
+linesOfAll [] = []
+linesOfAll (e ∷ l) = linesOf e ++ linesOfAll l
+
+-- ---- old records, with ids of n digits: "old ids as read"
+
+-- where a record has a peeled id, it stands at a place that is not 0
+abbrev pub objectAt : ℕ → List ℕ → ℕ → Option (List ℕ)
+objectAt n s zero = none
+objectAt n s (suc place) = some (take n (drop (suc place) s))
+
+abbrev pub objectIn : ℕ → Reading → List ℕ → Option (List ℕ)
+objectIn n (Good r) s = objectAt n s (r .object)
+objectIn n (Bad f) s = none
+
+abbrev pub entryOf : ℕ → Item → Entry
+entryOf n i = record { name = nameOf n i; id = take n (i .bytes); object = objectIn n (i .what) (i .bytes) }
+
+abbrev pub entriesOf : ℕ → List Item → List Entry
+entriesOf n [] = []
+entriesOf n (i ∷ l) = entryOf n i ∷ entriesOf n l
+
+-- ---- edits
+
+-- the name that it is about, and what stands in the place of the record of that name: nothing after a delete, one record after an update
+pub record Edit : Type 0 where
+  pub name : List ℕ
+  pub new : List Entry
+
+-- "Kind byte: 0 delete, 1 update, 2 update with peeled id"; "For 1 and 2 the id in raw bytes (20 or 32), for 2 the peeled id";
+-- "new ids in the sixteen lower-case digits"
+abbrev pub newOf : ℕ → ℕ → List ℕ → List ℕ → List Entry
+newOf n zero name ids = []
+newOf n (suc zero) name ids = record { name = name; id = hexText (take (n / 2) ids); object = none } ∷ []
+newOf n (suc (suc kind)) name ids =
+    record { name = name; id = hexText (take (n / 2) ids); object = some (hexText (take (n / 2) (drop (n / 2) ids))) } ∷ []
+
+-- the edit at a place of the list
+abbrev pub editAt : ℕ → List ℕ → ℕ → Edit
+editAt n list place =
+    record { name = editName list place; new = newOf n (getD list place 0) (editName list place) (behindName list place) }
+
+abbrev pub editsAt : ℕ → List ℕ → List ℕ → List Edit
+editsAt n list [] = []
+editsAt n list (p ∷ ps) = editAt n list p ∷ editsAt n list ps

@@ -1,0 +1,5 @@
+pub mod Entry
+pub mod Examples
+pub mod Merge
+pub mod Runs
+pub mod Theorems

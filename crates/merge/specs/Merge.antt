@@ -1,0 +1,167 @@
+-- The merge: what it answers, the new file, and the lent memory afterwards.
+use mathlib.Core.Bool.{Bool, true, false, not, _&&_, _||_}
+use mathlib.Core.List.{List, [], _∷_, _++_}
+use Prim.Native.Nat.{ℕ}
+use lib.Dec.{ltb}
+use lib.ListN.{length, drop}
+use Rattle.parse.specs.declared.order.Order.{Order}
+use Rattle.parse.specs.declared.order.Order.the-variants.{Less, Equal, Greater}
+use Rattle.parse.specs.Choice.{if}
+use Rattle.parse.specs.Class.{Classes, paper}
+use Rattle.parse.specs.Limit.{admission, admit}
+use Rattle.parse.specs.Order.{orderOf}
+use Rattle.decode.specs.declared.header.Opened.{Opened}
+use Rattle.decode.specs.declared.header.Opened.the-variants.{Header, Unreadable}
+use Rattle.decode.specs.Header.{headerOf}
+use Rattle.decode.specs.Record.{faultNumber}
+use Rattle.iter.specs.declared.check.Verdict.{Verdict}
+use Rattle.iter.specs.declared.check.Verdict.the-variants as verdict
+use Rattle.iter.specs.Check.{checkOf}
+use Rattle.iter.specs.Items.{items}
+use Rattle.sort.specs.Order.{same}
+use Rattle.edit.specs.declared.list.Prepared.{Prepared}
+use Rattle.edit.specs.declared.list.Prepared.the-variants as prepared
+use Rattle.edit.specs.List.{editsOf, placesOf, inOrder, preparedOf, indexAfter}
+use Rattle.merge.specs.declared.Merged.{Merged}
+use Rattle.merge.specs.declared.Merged.the-variants.{Done, UnknownKind, TooLarge, Malformed, BadName, TooMany, ShortIndex, Twins, BadHeader, BadRecord, Unsorted, NothingToDo, NoRecord, ShortOutput}
+use Rattle.merge.specs.Entry.{Entry, Edit, linesOfAll, entriesOf, editsAt}
+
+-- ---- the new records
+
+abbrev pub byOrder {ℓ} : {A : Type ℓ} → Order → A → A → A → A
+byOrder Less a b c = a
+byOrder Equal a b c = b
+byOrder Greater a b c = c
+
+-- "the old records overridden by the edits, in name order": both come in name order, and where both have a name the edit counts
+abbrev pub overridden : List Entry → List Edit → List Entry
+overridden [] [] = []
+overridden [] (e ∷ es) = e .new ++ overridden [] es
+overridden (r ∷ rs) [] = r ∷ rs
+overridden (r ∷ rs) (e ∷ es) =
+    byOrder (orderOf (r .name) (e .name)) (r ∷ overridden rs (e ∷ es)) (e .new ++ overridden rs es) (e .new ++ overridden (r ∷ rs) es)
+
+-- ---- "13: no update, and no delete names an old record."
+
+abbrev pub isNone {ℓ} : {A : Type ℓ} → List A → Bool
+isNone [] = true
+isNone (x ∷ l) = false
+
+abbrev pub hasName : List ℕ → List Entry → Bool
+hasName name [] = false
+hasName name (r ∷ rs) = same (r .name) name || hasName name rs
+
+abbrev pub isIdle : List Entry → List Edit → Bool
+isIdle olds [] = true
+isIdle olds (e ∷ es) = isNone (e .new) && (not (hasName (e .name) olds) && isIdle olds es)
+
+-- ---- the new file
+
+-- "the 46 bytes `# pack-refs with: peeled fully-peeled sorted ` with LF"
+abbrev pub headerLine : List ℕ
+headerLine =
+    35 ∷ 32 ∷ 112 ∷ 97 ∷ 99 ∷ 107 ∷ 45 ∷ 114 ∷ 101 ∷ 102 ∷ 115 ∷ 32 ∷ 119 ∷ 105 ∷ 116 ∷ 104 ∷ 58 ∷ 32
+    ∷ 112 ∷ 101 ∷ 101 ∷ 108 ∷ 101 ∷ 100 ∷ 32
+    ∷ 102 ∷ 117 ∷ 108 ∷ 108 ∷ 121 ∷ 45 ∷ 112 ∷ 101 ∷ 101 ∷ 108 ∷ 101 ∷ 100 ∷ 32
+    ∷ 115 ∷ 111 ∷ 114 ∷ 116 ∷ 101 ∷ 100 ∷ 32 ∷ 10 ∷ []
+
+unfoldable pub newFile : List Entry → List Edit → List ℕ
+newFile olds edits = headerLine ++ linesOfAll (overridden olds edits)
+
+-- "13, 14, 12": nothing to do; no record remains; the new file is longer than the output
+unfoldable pub finished : List Entry → List Edit → ℕ → Merged
+finished olds edits room =
+    if (isIdle olds edits) NothingToDo
+    (if (isNone (overridden olds edits)) NoRecord
+    (if (ltb room (length (newFile olds edits))) ShortOutput (Done (length (newFile olds edits)))))
+
+-- ---- the answer
+
+-- behind the header of a file, from its start where it has none
+abbrev pub bodyBy : List ℕ → Opened → List ℕ
+bodyBy file (Header h) = drop (h .body) file
+bodyBy file (Unreadable text) = []
+
+-- "2, 4/6 by place", where these are the old records
+abbrev pub judgedBy : List Entry → List Edit → ℕ → Verdict → Merged
+judgedBy olds edits room (verdict.Clean count) = finished olds edits room
+judgedBy olds edits room (verdict.BadHeader text) = BadHeader text
+judgedBy olds edits room (verdict.BadRecord place f) = BadRecord place f
+judgedBy olds edits room (verdict.Unsorted place) = Unsorted place
+
+module _ (byte : Classes) (n : ℕ) (file : List ℕ) where
+  unfoldable pub oldEntries : List Entry
+  oldEntries = entriesOf n (items byte n (bodyBy file (headerOf byte file)))
+
+  unfoldable pub judged : List Edit → ℕ → Merged
+  judged edits room = judgedBy oldEntries edits room (checkOf byte n file)
+
+  module _ (list : List ℕ) where
+    -- the edits in name order
+    unfoldable pub editsInOrder : List Edit
+    editsInOrder = editsAt n list (inOrder list (placesOf (editsOf byte n list)))
+
+    -- "7/8/9 by place, 10, 11"
+    abbrev pub listed : ℕ → Prepared → Merged
+    listed room (prepared.Ready k) = judged editsInOrder room
+    listed room (prepared.Malformed place) = Malformed place
+    listed room (prepared.BadName place) = BadName place
+    listed room (prepared.TooMany place) = TooMany place
+    listed room prepared.ShortIndex = ShortIndex
+    listed room (prepared.Twins place) = Twins place
+    listed room prepared.TooLarge = TooLarge
+
+    unfoldable pub mergeOf : ℕ → ℕ → Merged
+    mergeOf indexRoom room = listed room (preparedOf byte n list indexRoom)
+
+-- "Order: 1, 17, 7/8/9 by place, 10, 11, 2, 4/6 by place, 13, 14, 12."
+unfoldable pub mergeAnswer : ℕ → List ℕ → List ℕ → ℕ → ℕ → Merged
+mergeAnswer kind file list indexRoom room =
+    admit (admission kind (length file) (length list)) (λ n. mergeOf paper n file list indexRoom room) UnknownKind TooLarge
+
+-- ---- the lent memory afterwards
+
+-- "The answer gives the length; output behind it is unchanged"; on every refusal all of it is
+abbrev pub outputBy : List ℕ → List ℕ → Merged → List ℕ
+outputBy new out (Done len) = new ++ drop len out
+outputBy new out UnknownKind = out
+outputBy new out TooLarge = out
+outputBy new out (Malformed place) = out
+outputBy new out (BadName place) = out
+outputBy new out (TooMany place) = out
+outputBy new out ShortIndex = out
+outputBy new out (Twins place) = out
+outputBy new out (BadHeader text) = out
+outputBy new out (BadRecord place f) = out
+outputBy new out (Unsorted place) = out
+outputBy new out NothingToDo = out
+outputBy new out NoRecord = out
+outputBy new out ShortOutput = out
+
+unfoldable pub outputAfter : ℕ → List ℕ → List ℕ → ℕ → List ℕ → List ℕ
+outputAfter kind file list indexRoom out =
+    admit (admission kind (length file) (length list))
+    (λ n. outputBy (newFile (oldEntries paper n file) (editsInOrder paper n file list)) out (mergeOf paper n file list indexRoom (length out)))
+    out out
+
+-- "From 11 on the index's first entries hold the edits' places in the list by name order": see `indexAfter`
+unfoldable pub indexAnswer : ℕ → List ℕ → List ℕ → List ℕ → List ℕ
+indexAnswer kind file list index =
+    admit (admission kind (length file) (length list)) (λ n. indexAfter paper n list index) index index
+
+-- the paper's number for each case
+abbrev pub mergeNumber : Merged → ℕ
+mergeNumber (Done len) = 0
+mergeNumber UnknownKind = 1
+mergeNumber TooLarge = 17
+mergeNumber (Malformed place) = 7
+mergeNumber (BadName place) = 8
+mergeNumber (TooMany place) = 9
+mergeNumber ShortIndex = 10
+mergeNumber (Twins place) = 11
+mergeNumber (BadHeader text) = 2
+mergeNumber (BadRecord place f) = faultNumber f
+mergeNumber (Unsorted place) = 6
+mergeNumber NothingToDo = 13
+mergeNumber NoRecord = 14
+mergeNumber ShortOutput = 12

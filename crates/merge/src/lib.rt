@@ -1,0 +1,161 @@
+// The merge of an old file and an edit list into a lent output.
+//
+// The edits are read and put in name order first (`edit`). One pass over the old file then checks it and settles for each edit which run of
+// old bytes it replaces (`runs`). From the runs it is known what the new file is, so the last refusals can be given, and the writing
+// copies old bytes between the runs as they stand (`write`).
+ghost use mathlib.Core.Path.{_≡_};
+ghost use Prim.Native.Nat.{_+_, _*_, _≤_};
+ghost use lib.ListN.{length, drop};
+ghost use Rattle.parse.specs.Class.{paper, classTable};
+ghost use Rattle.iter.specs.Check.{judgeBody};
+ghost use Rattle.iter.specs.Items.{items};
+ghost use Rattle.edit.specs.List.{indexAfter};
+ghost use Rattle.merge.specs.Entry.{entriesOf, editsAt};
+ghost use Rattle.merge.specs.Merge.{mergeAnswer, outputAfter, indexAnswer, mergeOf, outputBy, newFile, oldEntries, editsInOrder, judged, judgedBy};
+ghost use Rattle.merge.specs.Runs.{splicedFile, splicedAnswer, isStill, Rising};
+use decode::header::Opened;
+use decode::reference::Fault;
+use edit::list::Prepared;
+use iter::check::Verdict;
+use parse::limit::Admission;
+
+mod runs;
+mod write;
+
+pub enum Merged {
+    // The new file stands in the output; its length.
+    Done(usize),
+    UnknownKind,
+    TooLarge,
+    // The first fault of the edit list, and the place of its edit.
+    Malformed(usize),
+    BadName(usize),
+    TooMany(usize),
+    ShortIndex,
+    // Two edits of one name: the second place of the first equal pair.
+    Twins(u32),
+    // What the check says of the old file.
+    BadHeader(usize),
+    BadRecord { place: usize, fault: Fault },
+    Unsorted(usize),
+    NothingToDo,
+    // The file is to be removed.
+    NoRecord,
+    ShortOutput,
+}
+
+// The old file and the edit list are lent; the index takes the edits' places in name order, the output the new file.
+pub fn merge(kind: u32, old: &[u8], list: &[u8], index: &mut [u32], out: &mut [u8]) -> Merged
+    ensures { λ r. ⌜ r ≡ mergeAnswer kind (now (old .entry)) (now (list .entry)) (length (now (index .entry))) (length (now (out .entry))) ⌝ }
+    ensures { λ _. ⌜ now (index .exit) ≡ indexAnswer kind (now (old .entry)) (now (list .entry)) (now (index .entry)) ⌝ }
+    ensures { λ _. ⌜ now (out .exit) ≡ outputAfter kind (now (old .entry)) (now (list .entry)) (length (now (index .entry))) (now (out .entry)) ⌝ }
+{
+    match parse::limit::admit(kind, old.len(), list.len()) {
+        Admission::Digits(n) => {
+            let t = parse::class::table();
+            merge_by(&t, n, old, list, index, out)
+        }
+        Admission::UnknownKind => Merged::UnknownKind,
+        Admission::TooLarge => Merged::TooLarge,
+    }
+}
+
+// With the table of byte classes made, and inputs that are not refused.
+fn merge_by(
+    t: &[u8; 256],
+    n: usize,
+    old: &[u8],
+    list: &[u8],
+    index: &mut [u32],
+    out: &mut [u8],
+) -> Merged
+    requires { ⌜ (now t ≡ classTable) × (n ≤ 64) × (length (now old) ≤ 1073741824) × (length (now list) ≤ 1073741824) ⌝ }
+    ensures { λ r. ⌜ r ≡ mergeOf paper n (now (old .entry)) (now (list .entry)) (length (now (index .entry))) (length (now (out .entry))) ⌝ }
+    ensures { λ _. ⌜ now (index .exit) ≡ indexAfter paper n (now (list .entry)) (now (index .entry)) ⌝ }
+    ensures { λ r. ⌜ now (out .exit) ≡ outputBy (newFile (oldEntries paper n (now (old .entry))) (editsInOrder paper n (now (old .entry)) (now (list .entry)))) (now (out .entry)) r ⌝ }
+{
+    match edit::list::prepare(t, n, list, index) {
+        Prepared::Ready(k) => with_edits(t, n, old, list, &index[0..k], out),
+        Prepared::Malformed(place) => Merged::Malformed(place),
+        Prepared::BadName(place) => Merged::BadName(place),
+        Prepared::TooMany(place) => Merged::TooMany(place),
+        Prepared::ShortIndex => Merged::ShortIndex,
+        Prepared::Twins(place) => Merged::Twins(place),
+        Prepared::TooLarge => Merged::TooLarge,
+    }
+}
+
+// With the places of all edits in name order, no two of one name.
+fn with_edits(
+    t: &[u8; 256],
+    n: usize,
+    old: &[u8],
+    list: &[u8],
+    index: &[u32],
+    out: &mut [u8],
+) -> Merged
+    requires { ⌜ (now t ≡ classTable) × (n ≤ 64) × (length (now old) ≤ 1073741824) × (length (now list) ≤ 1073741824) × (length (now index) ≤ 4096) × Rising (now list) (now index) ⌝ }
+    ensures { λ r. ⌜ r ≡ judged paper n (now (old .entry)) (editsAt n (now (list .entry)) (now (index .entry))) (length (now (out .entry))) ⌝ }
+    ensures { λ r. ⌜ now (out .exit) ≡ outputBy (newFile (oldEntries paper n (now (old .entry))) (editsAt n (now (list .entry)) (now (index .entry)))) (now (out .entry)) r ⌝ }
+{
+    match decode::header::open(t, old) {
+        Opened::Unreadable(text) => Merged::BadHeader(text),
+        Opened::Header(h) => behind_header(t, n, old, h.body, list, index, out),
+    }
+}
+
+// The old records begin at a place.
+fn behind_header(
+    t: &[u8; 256],
+    n: usize,
+    old: &[u8],
+    body: usize,
+    list: &[u8],
+    index: &[u32],
+    out: &mut [u8],
+) -> Merged
+    requires { ⌜ (now t ≡ classTable) × (n ≤ 64) × (length (now old) ≤ 1073741824) × (length (now list) ≤ 1073741824) × (length (now index) ≤ 4096) × Rising (now list) (now index) ⌝ }
+    ensures { λ r. ⌜ r ≡ judgedBy (entriesOf n (items paper n (drop body (now (old .entry))))) (editsAt n (now (list .entry)) (now (index .entry))) (length (now (out .entry))) (judgeBody paper n (now (old .entry)) body) ⌝ }
+    ensures { λ r. ⌜ now (out .exit) ≡ outputBy (newFile (entriesOf n (items paper n (drop body (now (old .entry))))) (editsAt n (now (list .entry)) (now (index .entry)))) (now (out .entry)) r ⌝ }
+{
+    let mut marks = no_marks();
+    match runs::survey(t, n, old, body, list, index, &mut marks) {
+        Verdict::Clean(_) => finish(n, old, body, list, index, &marks, out),
+        Verdict::BadHeader(text) => Merged::BadHeader(text),
+        Verdict::BadRecord { place, fault } => Merged::BadRecord { place, fault },
+        Verdict::Unsorted(place) => Merged::Unsorted(place),
+    }
+}
+
+// Room for the start and the end of each edit's run.
+fn no_marks() -> [usize; 8192] {
+    [0; 8192]
+}
+
+// What is known of the new file from the runs; nothing is written before all refusals are known.
+fn finish(
+    n: usize,
+    old: &[u8],
+    body: usize,
+    list: &[u8],
+    index: &[u32],
+    marks: &[usize],
+    out: &mut [u8],
+) -> Merged
+    requires { ⌜ (n ≤ 64) × (length (now old) ≤ 1073741824) × (length (now list) ≤ 1073741824) × (length (now index) ≤ 4096) × (2 * length (now index) ≤ length (now marks)) ⌝ }
+    ensures { λ r. ⌜ r ≡ splicedAnswer (isStill (now (list .entry)) (now (index .entry)) (now (marks .entry))) (splicedFile n (now (old .entry)) (now (list .entry)) body (now (index .entry)) (now (marks .entry))) (length (now (out .entry))) ⌝ }
+    ensures { λ r. ⌜ now (out .exit) ≡ outputBy (splicedFile n (now (old .entry)) (now (list .entry)) body (now (index .entry)) (now (marks .entry))) (now (out .entry)) r ⌝ }
+{
+    if runs::is_still(list, index, marks) {
+        return Merged::NothingToDo;
+    }
+    let len = write::write(n, old, body, list, index, marks, &mut out[0..0]);
+    if len == 46 {
+        return Merged::NoRecord;
+    }
+    if out.len() < len {
+        return Merged::ShortOutput;
+    }
+    write::write(n, old, body, list, index, marks, out);
+    Merged::Done(len)
+}

@@ -1,0 +1,135 @@
+// The one pass over the old records: the check, and for each edit the run of old bytes that it replaces.
+ghost use mathlib.Core.Path.{_≡_};
+ghost use mathlib.Core.List.{_∷_, []};
+ghost use Prim.Native.Nat.{ℕ, _+_, _*_, _≤_};
+ghost use lib.ListN.{getD, length, drop};
+ghost use Rattle.parse.specs.Class.{classesOf};
+ghost use Rattle.iter.specs.declared.check.Verdict.the-variants.{Clean};
+ghost use Rattle.iter.specs.Check.{judgeBody};
+ghost use Rattle.iter.specs.Items.{items};
+ghost use Rattle.put.specs.Put.{over};
+ghost use Rattle.merge.specs.Runs.{runsOf, settles, atEnd, marksOf, isStill};
+use decode::reference::Reading;
+use iter::check::Verdict;
+use parse::order::Order;
+
+// The check of the records from a place on. Where they pass, marks begins with the starts and ends of the runs of the edits at the
+// index's places.
+pub(crate) fn survey(
+    t: &[u8; 256],
+    n: usize,
+    file: &[u8],
+    body: usize,
+    list: &[u8],
+    index: &[u32],
+    marks: &mut [usize],
+) -> Verdict
+    requires { ⌜ 2 * length (now index) ≤ length (now marks) ⌝ }
+    ensures { λ r. ⌜ r ≡ judgeBody (classesOf (now (t .entry))) n (now (file .entry)) body ⌝ }
+    ensures { λ r. ⌜ ((count : ℕ) → r ≡ Clean count → now (marks .exit) ≡ over (now (marks .entry)) 0 (marksOf (runsOf n (now (list .entry)) body (items (classesOf (now (t .entry))) n (drop body (now (file .entry)))) (now (index .entry))))) ⌝ }
+{
+    let mut place = body;
+    let mut count = 0;
+    let mut last = &file[0..0];
+    let mut j = 0;
+    while place < file.len() {
+        let rest = &file[place..];
+        match decode::reference::reference(t, rest, n) {
+            Reading::Bad(fault) => {
+                return Verdict::BadRecord { place, fault };
+            }
+            Reading::Good(found) => {
+                let name = decode::reference::name_of(rest, n, found);
+                if !parse::order::is_less(last, name) {
+                    return Verdict::Unsorted(place);
+                }
+                let next = place + found.size;
+                j = settle(list, index, j, name, place, next, marks);
+                last = name;
+                count += 1;
+                place = next;
+            }
+        }
+    }
+    settle_rest(index, j, place, marks);
+    Verdict::Clean(count)
+}
+
+// The edits from j on that a record settles get their runs; gives the number of the first that it does not.
+fn settle(
+    list: &[u8],
+    index: &[u32],
+    from: usize,
+    name: &[u8],
+    place: usize,
+    next: usize,
+    marks: &mut [usize],
+) -> usize
+    requires { ⌜ (from ≤ length (now index)) × (2 * length (now index) ≤ length (now marks)) ⌝ }
+    ensures { λ r. ⌜ r ≡ from + length (settles (now (list .entry)) (now (name .entry)) place next (drop from (now (index .entry)))) ⌝ }
+    ensures { λ r. ⌜ now (marks .exit) ≡ over (now (marks .entry)) (2 * from) (marksOf (settles (now (list .entry)) (now (name .entry)) place next (drop from (now (index .entry))))) ⌝ }
+{
+    let mut j = from;
+    while j < index.len() {
+        match parse::order::compare(name, sort::name::edit_name(list, index[j])) {
+            Order::Less => {
+                return j;
+            }
+            Order::Equal => {
+                mark(marks, j, place, next);
+                return j + 1;
+            }
+            Order::Greater => {
+                mark(marks, j, place, place);
+                j += 1;
+            }
+        }
+    }
+    j
+}
+
+// The edits from j on belong behind all records.
+fn settle_rest(index: &[u32], from: usize, place: usize, marks: &mut [usize])
+    requires { ⌜ (from ≤ length (now index)) × (2 * length (now index) ≤ length (now marks)) ⌝ }
+    ensures { λ _. ⌜ now (marks .exit) ≡ over (now (marks .entry)) (2 * from) (marksOf (atEnd place (drop from (now (index .entry))))) ⌝ }
+{
+    let mut j = from;
+    while j < index.len() {
+        mark(marks, j, place, place);
+        j += 1;
+    }
+}
+
+// The run of the edit with number j.
+fn mark(marks: &mut [usize], j: usize, from: usize, to: usize)
+    requires { ⌜ 2 * j + 2 ≤ length (now marks) ⌝ }
+    ensures { λ _. ⌜ now (marks .exit) ≡ over (now (marks .entry)) (2 * j) (from ∷ to ∷ []) ⌝ }
+{
+    marks[2 * j] = from;
+    marks[2 * j + 1] = to;
+}
+
+// Whether there is no update, and every run is empty.
+pub(crate) fn is_still(list: &[u8], index: &[u32], marks: &[usize]) -> bool
+    requires { ⌜ 2 * length (now index) ≤ length (now marks) ⌝ }
+    ensures { λ r. ⌜ r ≡ isStill (now (list .entry)) (now (index .entry)) (now (marks .entry)) ⌝ }
+{
+    let mut j = 0;
+    while j < index.len() {
+        if kind_at(list, index[j]) != 0 {
+            return false;
+        }
+        if marks[2 * j] != marks[2 * j + 1] {
+            return false;
+        }
+        j += 1;
+    }
+    true
+}
+
+// The kind of the edit at a place.
+pub(crate) fn kind_at(list: &[u8], place: u32) -> u8
+    ensures { λ r. ⌜ r ≡ getD (now (list .entry)) place 0 ⌝ }
+{
+    sort::name::byte_at(list, place as usize)
+}
