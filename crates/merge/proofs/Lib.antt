@@ -7,6 +7,7 @@ pub mod EditsSound
 pub mod Entries
 pub mod Examples
 pub mod Finished
+pub mod GoodItems
 pub mod IdleRuns
 pub mod Marks
 pub mod NewFile

@@ -1,12 +1,12 @@
 -- The bytes of a good record without their CRs are the lines of its entry: only the CRs of its line ends go.
 use mathlib.Core.Path.{_≡_, refl, sym, ap, _∙_}
-use mathlib.Core.Bool.{true, false, not, and-eq-true-iff}
+use mathlib.Core.Bool.{true, false, not}
 use mathlib.Core.List.{List, [], _∷_, _++_, append-nil}
 use mathlib.Core.Option.{none, some}
-use Prim.Native.Nat.{ℕ, zero, suc, _+_, _-_, _≤_, _<_}
+use Prim.Native.Nat.{ℕ, suc, _+_, _-_, _≤_, _<_}
 use native.Mathlib.Numerals.{add-one}
 use native.Mathlib.Omega.{arith}
-use lib.ListN.{length, getD, take, drop, length-drop}
+use lib.ListN.{getD, take, drop}
 use lib.Seq.{take-take, take-add}
 use borrow.Author.Tests.{ne-eqb}
 use Rattle.parse.specs.Class.{paper, isHex, isLineEnd}
@@ -23,11 +23,12 @@ use Rattle.decode.specs.Record.{recordOf}
 use Rattle.decode.proofs.Records.{nameLen, afterName, headLen, peelLen, Head, Peel, View, is-bad, plain, peeled, view, fits}
 use Rattle.iter.specs.Items.{Item, sizeOf, itemOf, items, nameOf}
 use Rattle.iter.specs.Passes.{isGood, allGood}
-use Rattle.iter.proofs.Items.{size-good, size-some, items-nil, items-step}
+use Rattle.iter.proofs.Items.{size-good}
 use Rattle.iter.proofs.Turns.{item-name}
 use Rattle.put.specs.Text.{notCR, withoutCR}
 use Rattle.put.proofs.Laws.{without-append, without-none}
 use Rattle.merge.specs.Entry.{recordLine, objectLine, linesOf, objectIn, entryOf}
+use Rattle.merge.proofs.GoodItems.{Each, each-good}
 use Rattle.merge.proofs.OldSound.{front-digits}
 
 -- ---- ids and names hold no CR, and a line end without its CR is LF
@@ -161,21 +162,7 @@ module _ (n : ℕ) (s : List ℕ) where
 -- ---- all items of some bytes
 
 abbrev pub AllPlain : ℕ → List Item → Type 0
-AllPlain n [] = Unit {0}
-AllPlain n (i ∷ l) = (withoutCR (i .bytes) ≡ linesOf (entryOf n i)) × AllPlain n l
+AllPlain n = Each (λ i. withoutCR (i .bytes) ≡ linesOf (entryOf n i))
 
-module _ (n : ℕ) where
-  -- by a bound of the bytes' length: the items behind the first are those of fewer bytes
-  plain-by : (f : ℕ) (s : List ℕ) → length s ≤ f → allGood (items paper n s) ≡ true → AllPlain n (items paper n s)
-  plain-by zero [] h g = rw (items-nil paper n) tt
-  plain-by (suc f) [] h g = rw (items-nil paper n) tt
-  plain-by zero (b ∷ s) h g = absurd (omega arith)
-  plain-by (suc f) (b ∷ s) h g =
-      let k = sizeOf paper n (b ∷ s) in
-      let l : length (drop k (b ∷ s)) ≡ suc (length s) - k = length-drop k (b ∷ s) in
-      let step = items-step paper n (b ∷ s) (omega arith) in
-      let (first, rest) = and-eq-true-iff (isGood (recordOf paper n (b ∷ s))) (allGood (items paper n (drop k (b ∷ s)))) .0 (rw step at g) in
-      rw step (item-lines n (b ∷ s) first, plain-by f (drop k (b ∷ s)) (omega (arith, size-some paper n (b ∷ s) (omega arith))) rest)
-
-  pub olds-plain : (s : List ℕ) → allGood (items paper n s) ≡ true → AllPlain n (items paper n s)
-  olds-plain s g = plain-by (length s) s (omega arith) g
+pub olds-plain : (n : ℕ) (s : List ℕ) → allGood (items paper n s) ≡ true → AllPlain n (items paper n s)
+olds-plain n = each-good n (λ i. withoutCR (i .bytes) ≡ linesOf (entryOf n i)) (item-lines n)

@@ -1,11 +1,11 @@
 -- The entries of items that are all good are sound, and where the items' names rise, so do theirs.
 use mathlib.Core.Path.{_≡_, refl}
-use mathlib.Core.Bool.{Bool, true, false, and-eq-true-iff}
+use mathlib.Core.Bool.{Bool, true, false}
 use mathlib.Core.List.{List, [], _∷_}
 use Prim.Native.Nat.{ℕ, zero, suc, _+_, _-_, _≤_, _<_}
 use native.Mathlib.Numerals.{add-one}
 use native.Mathlib.Omega.{arith}
-use lib.ListN.{length, getD, take, drop, length-drop}
+use lib.ListN.{getD, take, drop}
 use lib.Seq.{take-take, drop-drop, length-take-le, getD-take}
 use Rattle.parse.specs.Choice.{if}
 use Rattle.parse.specs.Class.{paper, isHex}
@@ -19,9 +19,10 @@ use Rattle.decode.specs.Record.{recordOf}
 use Rattle.decode.proofs.Records.{nameLen, headLen, peelLen, Head, Peel, View, is-bad, plain, peeled, view, fits}
 use Rattle.iter.specs.Items.{Item, sizeOf, itemOf, items, nameOf}
 use Rattle.iter.specs.Passes.{isGood, allGood, ascending}
-use Rattle.iter.proofs.Items.{size-good, size-some, items-nil, items-step}
+use Rattle.iter.proofs.Items.{size-good}
 use Rattle.iter.proofs.Turns.{item-name}
 use Rattle.merge.specs.Entry.{entryOf, entriesOf}
+use Rattle.merge.proofs.GoodItems.{Each, each-good}
 use Rattle.merge.proofs.Entries.{Digits, Sound, AllSound, Ascends}
 
 -- ---- ids that were read are digits
@@ -73,22 +74,15 @@ module _ (n : ℕ) (s : List ℕ) where
       go (plain h c q) = record { id = id-digits _ q (h .id); name = name-valid h _ q refl; object = rw q tt }
       go (peeled h c p q) = record { id = id-digits _ q (h .id); name = name-valid h _ q refl; object = rw q (object-digits _ q refl p) }
 
--- ---- all items of some bytes, by a bound of their length: an item is followed by a part of the bytes that the check can't see is smaller
+-- ---- all items of some bytes
 
 module _ (n : ℕ) where
-  sound-by : (f : ℕ) (s : List ℕ) → length s ≤ f → allGood (items paper n s) ≡ true → AllSound n (entriesOf n (items paper n s))
-  sound-by zero [] h g = rw (items-nil paper n) tt
-  sound-by (suc f) [] h g = rw (items-nil paper n) tt
-  sound-by zero (b ∷ s) h g = absurd (omega arith)
-  sound-by (suc f) (b ∷ s) h g =
-      let k = sizeOf paper n (b ∷ s) in
-      let l : length (drop k (b ∷ s)) ≡ suc (length s) - k = length-drop k (b ∷ s) in
-      let step = items-step paper n (b ∷ s) (omega arith) in
-      let (first, rest) = and-eq-true-iff (isGood (recordOf paper n (b ∷ s))) (allGood (items paper n (drop k (b ∷ s)))) .0 (rw step at g) in
-      rw step (item-sound n (b ∷ s) first, sound-by f (drop k (b ∷ s)) (omega (arith, size-some paper n (b ∷ s) (omega arith))) rest)
+  all-sound : (l : List Item) → Each (λ i. Sound n (entryOf n i)) l → AllSound n (entriesOf n l)
+  all-sound [] e = tt
+  all-sound (i ∷ l) e = (e .0, all-sound l (e .1))
 
   pub olds-sound : (s : List ℕ) → allGood (items paper n s) ≡ true → AllSound n (entriesOf n (items paper n s))
-  olds-sound s g = sound-by (length s) s (omega arith) g
+  olds-sound s g = all-sound (items paper n s) (each-good n (λ i. Sound n (entryOf n i)) (item-sound n) s g)
 
   pub olds-ascend : (last : List ℕ) (l : List Item) → ascending n last l → Ascends last (entriesOf n l)
   olds-ascend last [] u = tt

@@ -1,0 +1,118 @@
+-- Document 01's examples that are marked P: kind 1, ids of 40 digits. Each is a question, what the definitions answer, and what the
+-- document says.
+use mathlib.Core.Path.{_≡_}
+use mathlib.Core.List.{List, [], _∷_, _++_, map}
+use Prim.Native.Nat.{ℕ}
+use lib.ListN.{take, drop, replicate}
+use Rattle.parse.specs.Class.{paper}
+use Rattle.iter.specs.Check.{checkAnswer, checkNumber}
+use Rattle.iter.specs.declared.check.CheckAnswer.{CheckAnswer}
+use Rattle.iter.specs.declared.check.CheckAnswer.the-variants as checked
+use Rattle.iter.specs.declared.check.Verdict.the-variants.{Clean, BadHeader, BadRecord, Unsorted}
+use Rattle.iter.specs.Handed.{Handed, good, error, handed}
+use Rattle.iter.specs.Items.{items}
+use Rattle.find.specs.Lookup.{lookupAnswer, lookupNumber}
+use Rattle.edit.specs.declared.change.Length.{Length}
+use Rattle.edit.specs.declared.change.Length.the-variants.{Of, Malformed}
+use Rattle.edit.specs.Change.{lengthAt}
+use Rattle.loose.specs.declared.Loose.the-variants.{Id, Symbolic, Unreadable, BadTarget}
+use Rattle.loose.specs.declared.LooseAnswer.{LooseAnswer}
+use Rattle.loose.specs.declared.LooseAnswer.the-variants as loosely
+use Rattle.loose.specs.Loose.{looseAnswer, looseNumber}
+
+-- ---- what is asked, and what comes of it
+
+pub data Question : Type 0 where
+  -- which items the bytes have, which records and errors they hand out
+  iterate : List ℕ → Question
+  check : List ℕ → Question
+  lookup : (bytes name : List ℕ) → Question
+  -- the length that an edit's name has, by its one or two groups
+  nameLength : List ℕ → Question
+  loose : List ℕ → Question
+
+pub data Outcome : Type 0 where
+  gives : List Handed → Outcome
+  -- a number of the paper
+  number : ℕ → Outcome
+  count : ℕ → Outcome
+  symbolic : List ℕ → Outcome
+  id : List ℕ → Outcome
+
+abbrev pub checkOutcome : CheckAnswer → Outcome
+checkOutcome (checked.Done (Clean k)) = count k
+checkOutcome (checked.Done (BadHeader text)) = number (checkNumber (checked.Done (BadHeader text)))
+checkOutcome (checked.Done (BadRecord place f)) = number (checkNumber (checked.Done (BadRecord place f)))
+checkOutcome (checked.Done (Unsorted place)) = number (checkNumber (checked.Done (Unsorted place)))
+checkOutcome checked.UnknownKind = number (checkNumber checked.UnknownKind)
+checkOutcome checked.TooLarge = number (checkNumber checked.TooLarge)
+
+-- a length that is malformed gives 7
+abbrev pub lengthOutcome : Length → Outcome
+lengthOutcome (Of value next) = count value
+lengthOutcome Malformed = number 7
+
+abbrev pub looseOutcome : List ℕ → LooseAnswer → Outcome
+looseOutcome content (loosely.Done (Id n)) = id (take n content)
+looseOutcome content (loosely.Done (Symbolic from len)) = symbolic (take len (drop from content))
+looseOutcome content (loosely.Done Unreadable) = number (looseNumber (loosely.Done Unreadable))
+looseOutcome content (loosely.Done BadTarget) = number (looseNumber (loosely.Done BadTarget))
+looseOutcome content loosely.UnknownKind = number (looseNumber loosely.UnknownKind)
+looseOutcome content loosely.TooLarge = number (looseNumber loosely.TooLarge)
+
+-- by the definitions
+abbrev pub answered : Question → Outcome
+answered (iterate bytes) = gives (handed 40 1 (items paper 40 bytes))
+answered (check bytes) = checkOutcome (checkAnswer 1 bytes)
+answered (lookup bytes name) = number (lookupNumber (lookupAnswer 1 bytes name))
+answered (nameLength bytes) = lengthOutcome (lengthAt bytes 0)
+answered (loose content) = looseOutcome content (looseAnswer 1 content)
+
+-- ---- the cases
+
+pub record Case : Type 0 where
+  pub question : Question
+  pub answer : Outcome
+
+abbrev pub case : Question → Outcome → Case
+case q a = record { question = q; answer = a }
+
+-- 1*
+abbrev pub ones : ℕ → List ℕ
+ones n = replicate n 49
+
+abbrev pub refsSA : List ℕ
+refsSA = 114 ∷ 101 ∷ 102 ∷ 115 ∷ 47 ∷ 115 ∷ 47 ∷ 97 ∷ []
+
+-- `1* refs/s/a`, then what is said
+abbrev pub line : List ℕ → List ℕ
+line behind = ones 40 ++ 32 ∷ (refsSA ++ behind)
+
+-- LF is 10, CR 13; `x` is 120, `b` 98, `^zz` 94, 122, 122; `ref: ` is 114, 101, 102, 58, 32
+abbrev pub cases : List Case
+cases =
+    -- "P empty bytes: no items; check 0, count 0; lookup of `refs/s/a` 5."
+    case (iterate []) (gives [])
+    ∷ case (check []) (count 0)
+    ∷ case (lookup [] refsSA) (number 5)
+    -- "P `x` LF: error 1, text `x`. P `x` alone: error 1, empty text."
+    ∷ case (iterate (120 ∷ 10 ∷ [])) (gives (error 1 (120 ∷ []) ∷ []))
+    ∷ case (iterate (120 ∷ [])) (gives (error 1 [] ∷ []))
+    -- "P `1* refs/s/a` LF `^zz` LF: error 1 `1* refs/s/a`, error 2 `^zz`."
+    ∷ case (iterate (line (10 ∷ 94 ∷ 122 ∷ 122 ∷ 10 ∷ []))) (gives (error 1 (line []) ∷ error 2 (94 ∷ 122 ∷ 122 ∷ []) ∷ []))
+    -- "P `1* refs/s/a` CR LF: good. P with a bare CR before `b` LF: bad. P without any LF: bad."
+    ∷ case (iterate (line (13 ∷ 10 ∷ []))) (gives (good (ones 40) refsSA ∷ []))
+    ∷ case (iterate (line (13 ∷ 98 ∷ 10 ∷ []))) (gives (error 1 (line (13 ∷ 98 ∷ [])) ∷ []))
+    ∷ case (iterate (line [])) (gives (error 1 (ones 40 ++ 32 ∷ 114 ∷ 101 ∷ 102 ∷ 115 ∷ 47 ∷ 115 ∷ 47 ∷ []) ∷ []))
+    -- "P length 8 as one byte 8; P 128 as 128, 1; P 8 as 136, 0: number 7."
+    ∷ case (nameLength (8 ∷ [])) (count 8)
+    ∷ case (nameLength (128 ∷ 1 ∷ [])) (count 128)
+    ∷ case (nameLength (136 ∷ 0 ∷ [])) (number 7)
+    -- "P loose `ref:  refs/s/a` LF: symbolic. P forty-one digits: 15."
+    ∷ case (loose (114 ∷ 101 ∷ 102 ∷ 58 ∷ 32 ∷ 32 ∷ (refsSA ++ 10 ∷ []))) (symbolic refsSA)
+    ∷ case (loose (ones 41)) (number 15)
+    ∷ []
+
+-- the single statement
+abbrev pub EveryCase : Type 0
+EveryCase = map (λ c. answered (c .question)) cases ≡ map (λ c. c .answer) cases
