@@ -1,4 +1,5 @@
--- How the new file is made: each edit replaces a run of the old file's bytes, which is empty where no record has its name.
+-- How the new file is made, for the contracts of the inner functions: each edit replaces a run of the old file's bytes, which is empty where no
+-- record has its name. `spliced-is-new` (proofs/NewFile.antt) shows that this is the new file of Merge.antt.
 use mathlib.Core.Path.{_≡_}
 use mathlib.Core.Bool.{Bool, true, _&&_}
 use mathlib.Core.List.{List, [], _∷_, _++_}
