@@ -1,0 +1,64 @@
+// The merge.
+ghost use mathlib.Core.Path.{_≡_};
+ghost use lib.ListN.{length};
+ghost use Rattle.merge.specs.Merge.{mergeAnswer, indexAnswer, outputAfter};
+ghost use Rattle.host.specs.Write.{mergeReply, mergeGives};
+use merge::Merged;
+
+#[repr(C)]
+pub struct MergeReply {
+    pub number: u32,
+    // Where the item of number 4 or 6 starts in the old file, or the edit of number 7, 8, 9 or 11 in the list.
+    pub place: usize,
+    // The new file's length.
+    pub length: usize,
+    // The length of number 2's text, which starts at 0 in the old file.
+    pub text_len: usize,
+}
+
+#[no_mangle]
+pub extern "C" fn packed_refs_merge(
+    kind: u32,
+    old: &[u8],
+    edits: &[u8],
+    index: &mut [u32],
+    out: &mut [u8],
+) -> MergeReply
+    ensures { λ r. ⌜ r ≡ mergeReply (mergeAnswer kind (now (old .entry)) (now (edits .entry)) (length (now (index .entry))) (length (now (out .entry)))) ⌝ }
+    ensures { λ _. ⌜ now (index .exit) ≡ indexAnswer kind (now (old .entry)) (now (edits .entry)) (now (index .entry)) ⌝ }
+    ensures { λ _. ⌜ now (out .exit) ≡ outputAfter kind (now (old .entry)) (now (edits .entry)) (length (now (index .entry))) (now (out .entry)) ⌝ }
+{
+    told(merge::merge(kind, old, edits, index, out))
+}
+
+fn told(merged: Merged) -> MergeReply
+    ensures { λ r. ⌜ r ≡ mergeReply merged ⌝ }
+{
+    match merged {
+        Merged::Done(len) => gives(0, 0, len, 0),
+        Merged::UnknownKind => gives(1, 0, 0, 0),
+        Merged::TooLarge => gives(17, 0, 0, 0),
+        Merged::Malformed(place) => gives(7, place, 0, 0),
+        Merged::BadName(place) => gives(8, place, 0, 0),
+        Merged::TooMany(place) => gives(9, place, 0, 0),
+        Merged::ShortIndex => gives(10, 0, 0, 0),
+        Merged::Twins(place) => gives(11, place as usize, 0, 0),
+        Merged::BadHeader(text) => gives(2, 0, 0, text),
+        Merged::BadRecord { place, fault } => gives(crate::told::fault_number(fault), place, 0, 0),
+        Merged::Unsorted(place) => gives(6, place, 0, 0),
+        Merged::NothingToDo => gives(13, 0, 0, 0),
+        Merged::NoRecord => gives(14, 0, 0, 0),
+        Merged::ShortOutput => gives(12, 0, 0, 0),
+    }
+}
+
+fn gives(number: u32, place: usize, len: usize, text: usize) -> MergeReply
+    ensures { λ r. ⌜ r ≡ mergeGives number place len text ⌝ }
+{
+    MergeReply {
+        number,
+        place,
+        length: len,
+        text_len: text,
+    }
+}

@@ -1,0 +1,152 @@
+/* What C calls of the packed reference table. The functions are proved: crates/host holds their code and their contracts.
+ *
+ * Lent bytes are a pointer and a length. The pointer is never NULL, also where the length is 0; bytes that a function only reads may overlap one
+ * another, but an index and an output overlap nothing that is lent to the same call. Only packed_refs_merge writes, and only to its
+ * index and its output. Nothing is allocated, and nothing is kept behind a call.
+ *
+ * An answer comes back by value. Its first field is the number:
+ *
+ *    0  done                                              9  a 4,097th edit begins
+ *    1  id kind neither 1 (40 hex digits) nor 2 (64)     10  index shorter than the number of edits
+ *    2  first byte is # and the header can't be read     11  two edits of one name
+ *    3  the looked-up name breaks the name rules         12  new file longer than the output
+ *    4  a record can't be read                           13  nothing to do
+ *    5  not found                                        14  no record remains: remove the file
+ *    6  a name not greater than the record's before it   15  loose content unreadable
+ *    7  edit list malformed                              16  symbolic target breaks the name rules
+ *    8  edit name empty, too long or breaking the rules  17  lent bytes over 1,073,741,824
+ *
+ * Every other field is 0 where its comment does not give it beside that number. Every place is counted in the bytes that were lent. */
+#ifndef PACKED_REFS_H
+#define PACKED_REFS_H
+
+#include <stddef.h>
+#include <stdint.h>
+
+#ifdef __cplusplus
+extern "C" {
+#endif
+
+/* ---- The header and names ---- */
+
+struct packed_refs_header_reply {
+    uint32_t number;    /* 0, 2, 17 */
+    uint32_t peeled;    /* beside 0: 0 unspecified, 1 partial, 2 fully */
+    uint32_t sorted;    /* beside 0: whether the header says so */
+    size_t place;       /* beside 0: behind the header; 0 without one */
+    size_t text_len;    /* beside 2: the length of the first line, which starts at 0 */
+};
+struct packed_refs_header_reply packed_refs_header(const uint8_t *file, size_t file_len);
+
+/* The number alone: 0 a valid name, 3 none, 17. */
+uint32_t packed_refs_name(const uint8_t *name, size_t name_len);
+
+/* ---- Iteration ---- */
+
+/* Where the iteration of a whole file starts. */
+struct packed_refs_start_reply {
+    uint32_t number;    /* 0, 1, 2, 17 */
+    size_t place;       /* beside 0: the first step's place, behind the header */
+    uint64_t item;      /* beside 0: the first step's item number */
+    size_t text_len;    /* beside 2: the length of the first line, which starts at 0 */
+};
+struct packed_refs_start_reply packed_refs_start(uint32_t kind, const uint8_t *file, size_t file_len);
+
+/* One step. A record's id stands at start and has 40 or 64 digits by its kind. */
+struct packed_refs_step_reply {
+    uint32_t number;    /* 0, 1, 17 */
+    uint32_t what;      /* beside 0: 0 the end, 1 a record, 2 an error */
+    size_t start;       /* of a record or an error: where it starts, the place that was given */
+    size_t next;        /* beside 0: the next step's place; at the end the length */
+    uint64_t item;      /* beside 0: the next step's item number; at the end as it came */
+    size_t name_at;     /* of a record */
+    size_t name_len;    /* of a record */
+    size_t peeled_at;   /* of a record: where its peeled id stands, or 0 where it has none */
+    uint64_t error;     /* of an error: its item number */
+    size_t text_len;    /* of an error: the length of its text, which starts at start */
+};
+struct packed_refs_step_reply packed_refs_step(
+    uint32_t kind, const uint8_t *bytes, size_t bytes_len, size_t place, uint64_t item);
+
+/* The same with a prefix: a record whose name does not begin with it ends the iteration. */
+struct packed_refs_step_reply packed_refs_step_prefix(
+    uint32_t kind, const uint8_t *bytes, size_t bytes_len, const uint8_t *prefix, size_t prefix_len, size_t place, uint64_t item);
+
+/* ---- The check of a whole file ---- */
+
+struct packed_refs_check_reply {
+    uint32_t number;    /* 0, 1, 2, 4, 6, 17 */
+    size_t place;       /* beside 4 and 6: where the first such item starts */
+    size_t count;       /* beside 0: how many records */
+    size_t text_len;    /* beside 2: the length of the first line, which starts at 0 */
+};
+struct packed_refs_check_reply packed_refs_check(uint32_t kind, const uint8_t *file, size_t file_len);
+
+/* ---- Lookup ---- */
+
+/* The start of the record that a place lies in, by line ends alone. A place beyond the end counts as the end. */
+size_t packed_refs_record_start(const uint8_t *bytes, size_t bytes_len, size_t place);
+
+/* A name in the bytes behind the header. 5 means absent only where the file passed packed_refs_check. */
+struct packed_refs_lookup_reply {
+    uint32_t number;    /* 0, 1, 3, 4, 5, 17 */
+    size_t place;       /* beside 0: where the record starts, and its id; beside 4: where the record starts that was hit, or 0 where none was */
+    size_t name_at;     /* beside 0 */
+    size_t name_len;    /* beside 0 */
+    size_t peeled_at;   /* beside 0: where the peeled id stands, or 0 where there is none */
+};
+struct packed_refs_lookup_reply packed_refs_lookup(
+    uint32_t kind, const uint8_t *body, size_t body_len, const uint8_t *name, size_t name_len);
+
+/* Where the listing of a prefix starts in the bytes behind the header; packed_refs_step_prefix goes on from there with the same prefix. */
+struct packed_refs_prefix_reply {
+    uint32_t number;    /* 0, 1, 2, 17 */
+    size_t place;       /* beside 0: the first step's place */
+    uint64_t item;      /* beside 0: the first step's item number */
+    size_t text_at;     /* beside 2: where the text starts */
+    size_t text_len;    /* beside 2 */
+};
+struct packed_refs_prefix_reply packed_refs_prefix(
+    uint32_t kind, const uint8_t *body, size_t body_len, const uint8_t *prefix, size_t prefix_len);
+
+/* A name in a whole file, whatever the file: 0 where a record has the name; else 5 only if the file passes the check; else what the check gives. */
+struct packed_refs_ask_reply {
+    uint32_t number;    /* 0, 1, 2, 3, 4, 5, 6, 17 */
+    size_t place;       /* beside 0: where the record starts, and its id; beside 4 and 6: where the first such item starts */
+    size_t name_at;     /* beside 0 */
+    size_t name_len;    /* beside 0 */
+    size_t peeled_at;   /* beside 0: where the peeled id stands, or 0 where there is none */
+    size_t text_len;    /* beside 2: the length of the first line, which starts at 0 */
+};
+struct packed_refs_ask_reply packed_refs_ask(
+    uint32_t kind, const uint8_t *file, size_t file_len, const uint8_t *name, size_t name_len);
+
+/* ---- Merge ---- */
+
+/* The old file and the edits give a new file in out. Beside 0 and from number 11 on in the order of refusals, the index's first entries hold the
+ * edits' places in name order. The output is written beside 0 only, and not behind the new file's length. Lengths are counts of entries. */
+struct packed_refs_merge_reply {
+    uint32_t number;    /* 0, 1, 2, 4, 6 to 14, 17 */
+    size_t place;       /* beside 4 and 6: where the item starts in old; beside 7, 8, 9 and 11: where the edit starts in edits */
+    size_t length;      /* beside 0: the new file's length */
+    size_t text_len;    /* beside 2: the length of old's first line, which starts at 0 */
+};
+struct packed_refs_merge_reply packed_refs_merge(
+    uint32_t kind, const uint8_t *old, size_t old_len, const uint8_t *edits, size_t edits_len, uint32_t *index, size_t index_len, uint8_t *out,
+    size_t out_len);
+
+/* ---- Loose content ---- */
+
+struct packed_refs_loose_reply {
+    uint32_t number;    /* 0, 1, 15, 16, 17 */
+    uint32_t what;      /* beside 0: 1 an id, 2 the name of another reference */
+    size_t at;          /* beside 0: where it stands; an id stands at 0 */
+    size_t len;         /* beside 0 */
+};
+struct packed_refs_loose_reply packed_refs_loose(uint32_t kind, const uint8_t *content, size_t content_len);
+
+#ifdef __cplusplus
+}
+#endif
+
+#endif

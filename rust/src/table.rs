@@ -1,0 +1,336 @@
+//! A table of references in lent bytes: header, check, lookup, listing.
+use crate::{sys, Error, IdKind, Items};
+
+/// A record: its parts are parts of the lent bytes, ids as they stand there.
+#[derive(Clone, Copy, Debug, PartialEq, Eq, Hash)]
+pub struct Record<'a> {
+    /// The name.
+    pub name: &'a [u8],
+    /// The id, in hex digits.
+    pub id: &'a [u8],
+    /// The peeled id behind `^`, if the record has one.
+    pub peeled: Option<&'a [u8]>,
+    /// Where the record starts in the file.
+    pub place: usize,
+}
+
+impl<'a> Record<'a> {
+    /// The record whose parts an answer told, in the bytes that were lent. A peeled id never stands at 0, which says that there is none.
+    pub(crate) fn at(kind: IdKind, bytes: &'a [u8], place: usize, name_at: usize, name_len: usize, peeled_at: usize) -> Record<'a> {
+        let id = |from: usize| &bytes[from..from + kind.digits()];
+        Record { name: &bytes[name_at..name_at + name_len], id: id(place), peeled: (peeled_at != 0).then(|| id(peeled_at)), place }
+    }
+
+    /// The same record where the bytes begin so much later than the file.
+    fn behind(self, body: usize) -> Record<'a> {
+        Record { place: self.place + body, ..self }
+    }
+}
+
+/// The answer of a lookup that can be trusted.
+#[derive(Clone, Copy, Debug, PartialEq, Eq, Hash)]
+pub enum Found<'a> {
+    /// A record of the file has the name: stop.
+    Charted(Record<'a>),
+    /// The whole file passes the check, and no record has the name: it may be sent.
+    Absent,
+}
+
+/// The answer of a lookup in bytes that nobody checked.
+#[derive(Clone, Copy, Debug, PartialEq, Eq, Hash)]
+pub enum Glance<'a> {
+    /// A record of the file has the name. That is worth as much as from a checked file: the record stands there.
+    Charted(Record<'a>),
+    /// The search met no record of the name. **This is not worth *absent***: a damaged line can lead the search astray, past a record
+    /// that is there. Ask again with [`ask`].
+    NotFound,
+    /// Something that the search looked at can't be read (number 4). The place is that of the record if it was hit, and none is told if it was not.
+    /// (A record that was hit at the very front of the bytes behind the header is told without its place too.)
+    Unreadable(Option<usize>),
+}
+
+/// What a header says of peeled ids.
+#[derive(Clone, Copy, Debug, PartialEq, Eq, Hash)]
+pub enum Peeled {
+    /// Nothing, or there is no header.
+    Unspecified,
+    /// `peeled`: tags have theirs.
+    Partial,
+    /// `fully-peeled`: whatever can have one has it.
+    Fully,
+}
+
+/// The header of a file. A file without one has an unspecified, unsorted header that ends at 0.
+#[derive(Clone, Copy, Debug, PartialEq, Eq, Hash)]
+pub struct Header {
+    /// What it says of peeled ids.
+    pub peeled: Peeled,
+    /// Whether it says `sorted`. Nothing relies on that: the check looks.
+    pub sorted: bool,
+    /// The place behind it, where the records begin.
+    pub body: usize,
+}
+
+/// Reads the header of a file: number 2 where the first byte is `#` and the line is none, 17 where the file is too large.
+///
+/// ```
+/// use packed_refs::{header, Peeled};
+/// let h = header(b"# pack-refs with: peeled fully-peeled sorted \n").unwrap();
+/// assert_eq!((h.peeled, h.sorted, h.body), (Peeled::Fully, true, 46));
+///
+/// let error = header(b"# something else\n").unwrap_err();
+/// assert_eq!((error.number(), error.text()), (2, &b"# something else"[..]));
+/// ```
+pub fn header(file: &[u8]) -> Result<Header, Error> {
+    let said = sys::header(file);
+    match said.number {
+        0 => Ok(Header {
+            peeled: match said.peeled {
+                0 => Peeled::Unspecified,
+                1 => Peeled::Partial,
+                2 => Peeled::Fully,
+                other => panic!("packed_refs_header gave peeled {other}"),
+            },
+            sorted: said.sorted != 0,
+            body: said.place,
+        }),
+        number => Err(refusal(number, file, 0, said.text_len)),
+    }
+}
+
+/// Tests a name against the rules of Git's page git-check-ref-format, with at least one slash: number 3 where it breaks them.
+///
+/// ```
+/// use packed_refs::check_name;
+/// assert!(check_name(b"refs/sent/ward4/o118/e3").is_ok());
+/// assert_eq!(check_name(b"refs/sent//e3").unwrap_err().number(), 3);
+/// ```
+pub fn check_name(name: &[u8]) -> Result<(), Error> {
+    match sys::name(name) {
+        0 => Ok(()),
+        number => Err(Error::new(number)),
+    }
+}
+
+/// The lookup that can be trusted on any bytes. It is lent the whole file and goes through it once.
+///
+/// *Charted* is said as soon as a good record has the name, even if the file is damaged elsewhere. *Absent* is said only if the whole file
+/// passes the check. Everything else is an error: 2, 4 or 6 for what the check finds, 3 for the name, 17 for the size. Then do not send.
+///
+/// ```
+/// use packed_refs::{ask, Found, IdKind};
+/// let file = b"1111111111111111111111111111111111111111 refs/s/a\nrubbish\n";
+///
+/// // what stands in the file is charted, whatever else stands there
+/// assert!(matches!(ask(IdKind::Sha1, file, b"refs/s/a"), Ok(Found::Charted(_))));
+/// // what might have stood on the damaged line is never absent
+/// let error = ask(IdKind::Sha1, file, b"refs/s/b").unwrap_err();
+/// assert_eq!((error.number(), error.place()), (4, Some(50)));
+/// // without the damaged line it is
+/// assert_eq!(ask(IdKind::Sha1, &file[..50], b"refs/s/b"), Ok(Found::Absent));
+/// ```
+pub fn ask<'a>(kind: IdKind, file: &'a [u8], name: &[u8]) -> Result<Found<'a>, Error> {
+    let said = sys::ask(kind.number(), file, name);
+    match said.number {
+        0 => Ok(Found::Charted(Record::at(kind, file, said.place, said.name_at, said.name_len, said.peeled_at))),
+        5 => Ok(Found::Absent),
+        number => Err(refusal(number, file, said.place, said.text_len)),
+    }
+}
+
+/// The bytes of a file, as they are: nobody has checked them.
+#[derive(Clone, Copy, Debug)]
+pub struct Table<'a> {
+    kind: IdKind,
+    bytes: &'a [u8],
+}
+
+impl<'a> Table<'a> {
+    /// A table in lent bytes. Nothing is looked at yet.
+    pub fn new(kind: IdKind, bytes: &'a [u8]) -> Table<'a> {
+        Table { kind, bytes }
+    }
+
+    /// The check of a whole file: every item is a record, and every name is greater than the one before. Only a table that passed it can say
+    /// *absent*.
+    ///
+    /// ```
+    /// use packed_refs::{Found, IdKind, Table};
+    /// let file = b"1111111111111111111111111111111111111111 refs/s/a\n\
+    ///              2222222222222222222222222222222222222222 refs/s/b\n";
+    /// let table = Table::check(IdKind::Sha1, file).unwrap();
+    /// assert_eq!(table.len(), 2);
+    /// assert!(matches!(table.find(b"refs/s/b"), Ok(Found::Charted(_))));
+    /// assert_eq!(table.find(b"refs/s/c"), Ok(Found::Absent));
+    ///
+    /// // a name twice: number 6, and where the second record starts
+    /// let twice = [&file[..50], &file[..50]].concat();
+    /// let error = Table::check(IdKind::Sha1, &twice).unwrap_err();
+    /// assert_eq!((error.number(), error.place()), (6, Some(50)));
+    /// ```
+    pub fn check(kind: IdKind, bytes: &'a [u8]) -> Result<Checked<'a>, Error> {
+        let said = sys::check(kind.number(), bytes);
+        match said.number {
+            0 => Ok(Checked { table: Table::new(kind, bytes), header: header(bytes)?, count: said.count }),
+            number => Err(refusal(number, bytes, said.place, said.text_len)),
+        }
+    }
+
+    /// The bytes of the file.
+    pub fn bytes(&self) -> &'a [u8] {
+        self.bytes
+    }
+
+    /// How long its ids are.
+    pub fn kind(&self) -> IdKind {
+        self.kind
+    }
+
+    /// A quick look for a name, in a handful of probes, in bytes that nobody checked. Behind an unreadable header nothing is looked for (number 2);
+    /// 3 and 17 are as in [`ask`].
+    ///
+    /// [`Glance::NotFound`] is not worth *absent*. Here is why: the search goes by the middle, and one damaged line can send it the wrong way.
+    ///
+    /// ```
+    /// use packed_refs::{ask, Found, Glance, IdKind, Table};
+    /// // refs/s/b stands in the file, but the line before it was torn out of place
+    /// let file = b"1111111111111111111111111111111111111111 refs/s/z\n\
+    ///              2222222222222222222222222222222222222222 refs/s/b\n";
+    /// let table = Table::new(IdKind::Sha1, file);
+    /// assert_eq!(table.glance(b"refs/s/z"), Ok(Glance::NotFound));
+    /// assert!(matches!(ask(IdKind::Sha1, file, b"refs/s/z"), Ok(Found::Charted(_))));
+    /// ```
+    pub fn glance(&self, name: &[u8]) -> Result<Glance<'a>, Error> {
+        self.glance_behind(header(self.bytes)?.body, name)
+    }
+
+    /// The same behind a header that was read before.
+    fn glance_behind(&self, body: usize, name: &[u8]) -> Result<Glance<'a>, Error> {
+        let records = &self.bytes[body..];
+        let said = sys::lookup(self.kind.number(), records, name);
+        match said.number {
+            0 => Ok(Glance::Charted(Record::at(self.kind, records, said.place, said.name_at, said.name_len, said.peeled_at).behind(body))),
+            4 => Ok(Glance::Unreadable((said.place != 0).then_some(said.place + body))),
+            5 => Ok(Glance::NotFound),
+            number => Err(Error::new(number)),
+        }
+    }
+
+    /// The items of the file, damaged lines too. Number 2 where the header can't be read.
+    pub fn items(&self) -> Result<Items<'a>, Error> {
+        let said = sys::start(self.kind.number(), self.bytes);
+        match said.number {
+            0 => Ok(Items::new(self.kind, self.bytes, b"", said.place, said.item)),
+            number => Err(refusal(number, self.bytes, 0, said.text_len)),
+        }
+    }
+
+    /// The items from a place on, numbered from a number on, whatever stands before them. A place inside a line is read from there.
+    /// Number 17 where the file is too large.
+    pub fn items_from(&self, place: usize, item: u64) -> Result<Items<'a>, Error> {
+        match sys::step(self.kind.number(), self.bytes, self.bytes.len(), item).number {
+            0 => Ok(Items::new(self.kind, self.bytes, b"", place, item)),
+            number => Err(Error::new(number)),
+        }
+    }
+
+    /// Where the record starts that a place lies in: behind the last LF before it, and one line back from a `^` line.
+    ///
+    /// ```
+    /// use packed_refs::{IdKind, Table};
+    /// let file = b"1111111111111111111111111111111111111111 refs/s/a\n^3333333333333333333333333333333333333333\n";
+    /// assert_eq!(Table::new(IdKind::Sha1, file).record_start(70), 0);
+    /// ```
+    pub fn record_start(&self, place: usize) -> usize {
+        sys::record_start(self.bytes, place)
+    }
+}
+
+/// A table that passed the check. It can only be had from [`Table::check`].
+#[derive(Clone, Copy, Debug)]
+pub struct Checked<'a> {
+    table: Table<'a>,
+    header: Header,
+    count: usize,
+}
+
+impl<'a> Checked<'a> {
+    /// Looks a name up, in a handful of probes. An error is about the name alone: 3 where it breaks the name rules, 17 where it is too large.
+    pub fn find(&self, name: &[u8]) -> Result<Found<'a>, Error> {
+        match self.table.glance_behind(self.header.body, name)? {
+            Glance::Charted(record) => Ok(Found::Charted(record)),
+            Glance::NotFound => Ok(Found::Absent),
+            // It is proved that this does not happen. If it did, it would still not be absent.
+            Glance::Unreadable(place) => Err(Error::told(4, place.unwrap_or(self.header.body))),
+        }
+    }
+
+    /// All records, in name order.
+    pub fn records(&self) -> Records<'a> {
+        let item = if self.header.body == 0 { 1 } else { 2 };
+        Records(Items::new(self.table.kind, self.table.bytes, b"", self.header.body, item))
+    }
+
+    /// The records whose name begins with a prefix, in name order. The prefix may be any bytes: it need not be a name, nor end at a slash.
+    /// Number 17 where it is too large.
+    ///
+    /// ```
+    /// use packed_refs::{IdKind, Table};
+    /// let file = b"1111111111111111111111111111111111111111 refs/s/a\n\
+    ///              2222222222222222222222222222222222222222 refs/s/b/c\n\
+    ///              3333333333333333333333333333333333333333 refs/t/b\n";
+    /// let table = Table::check(IdKind::Sha1, file).unwrap();
+    /// let names: Vec<_> = table.with_prefix(b"refs/s/b").unwrap().map(|r| r.name).collect();
+    /// assert_eq!(names, [b"refs/s/b/c"]);
+    /// ```
+    pub fn with_prefix(&self, prefix: &[u8]) -> Result<Records<'a>, Error> {
+        let body = self.header.body;
+        let said = sys::prefix(self.table.kind.number(), &self.table.bytes[body..], prefix);
+        match said.number {
+            0 => Ok(Records(Items::new(self.table.kind, self.table.bytes, prefix, body + said.place, said.item))),
+            number => Err(Error::new(number)),
+        }
+    }
+
+    /// How many records there are.
+    pub fn len(&self) -> usize {
+        self.count
+    }
+
+    /// Whether there is none.
+    pub fn is_empty(&self) -> bool {
+        self.count == 0
+    }
+
+    /// The file's header.
+    pub fn header(&self) -> Header {
+        self.header
+    }
+
+    /// The table as anyone may use it.
+    pub fn table(&self) -> Table<'a> {
+        self.table
+    }
+}
+
+/// The records of a checked table.
+#[derive(Clone, Debug)]
+pub struct Records<'a>(Items<'a>);
+
+impl<'a> Iterator for Records<'a> {
+    type Item = Record<'a>;
+
+    fn next(&mut self) -> Option<Record<'a>> {
+        self.0.next().map(|item| item.expect("every item of a checked table is a record"))
+    }
+}
+
+impl std::iter::FusedIterator for Records<'_> {}
+
+/// The refusal that goes with a number, with the place or the text that goes with it.
+pub(crate) fn refusal(number: u32, file: &[u8], place: usize, text_len: usize) -> Error {
+    match number {
+        2 => Error::header(0, &file[..text_len]),
+        _ => Error::told(number, place),
+    }
+}

@@ -1,0 +1,307 @@
+//! The comfortable form on hand-made files, and against a plain model on thousands of made-up ones.
+use packed_refs::*;
+use std::collections::BTreeMap;
+
+const KIND: IdKind = IdKind::Sha1;
+
+fn id(digit: char) -> String {
+    digit.to_string().repeat(40)
+}
+
+fn file(lines: &[String]) -> Vec<u8> {
+    lines.concat().into_bytes()
+}
+
+#[test]
+fn a_record_borrows_its_parts() {
+    let bytes = file(&[format!("{} refs/s/a\r\n^{}\r\n", id('A'), id('b'))]);
+    let table = Table::check(KIND, &bytes).unwrap();
+    let Ok(Found::Charted(record)) = table.find(b"refs/s/a") else { panic!() };
+    assert_eq!(record.name.as_ptr(), bytes[41..].as_ptr());
+    assert_eq!((record.id, record.peeled), (id('A').as_bytes(), Some(id('b').as_bytes())));
+    assert_eq!(record.place, 0);
+}
+
+#[test]
+fn places_are_counted_in_the_whole_file() {
+    let header = "# pack-refs with: sorted \n";
+    let bytes = file(&[header.into(), format!("{} refs/s/a\n", id('1')), format!("{} refs/s/b\n", id('2'))]);
+    let table = Table::check(KIND, &bytes).unwrap();
+    let expected = header.len() + 50;
+    for answer in [table.find(b"refs/s/b"), ask(KIND, &bytes, b"refs/s/b")] {
+        let Ok(Found::Charted(record)) = answer else { panic!() };
+        assert_eq!(record.place, expected);
+        assert_eq!(&bytes[record.place..record.place + 40], id('2').as_bytes());
+    }
+    assert_eq!(table.records().map(|r| r.place).collect::<Vec<_>>(), [header.len(), expected]);
+    assert_eq!(table.with_prefix(b"refs/s/b").unwrap().next().unwrap().place, expected);
+    assert_eq!(table.table().items().unwrap().item(), 2);
+}
+
+#[test]
+fn what_cannot_be_read_is_never_absent() {
+    let a = format!("{} refs/s/a\n", id('1'));
+    let c = format!("{} refs/s/c\n", id('3'));
+    for (damaged, number) in [
+        (format!("{} refs/s/b\n", &id('2')[1..]), 4),   // a digit short
+        (format!("{} refs/s/b\n", id('g')), 4),         // no digits
+        (format!("{}  refs/s/b\n", id('2')), 4),        // two spaces
+        (format!("{} refs/s/b\rx\n", id('2')), 4),      // a bare CR
+        (format!("{} refs/s/b\n^zz\n", id('2')), 4),    // a bad peeled line
+        (format!("{} refs/s/..\n", id('2')), 4),        // a bad name
+        ("\n".to_string(), 4),                          // an empty line
+        ("# pack-refs with: sorted \n".to_string(), 4), // a second header
+        (format!("{} refs/r/a\n", id('2')), 6),         // out of order
+        (format!("{} refs/s/a\n", id('2')), 6),         // twice
+    ] {
+        let bytes = file(&[a.clone(), damaged.clone(), c.clone()]);
+        assert_eq!(Table::check(KIND, &bytes).unwrap_err().number(), number, "{damaged:?}");
+        let error = ask(KIND, &bytes, b"refs/s/b").unwrap_err();
+        assert_eq!((error.number(), error.place()), (number, Some(50)), "{damaged:?}");
+        for name in ["refs/s/a", "refs/s/c"] {
+            assert!(matches!(ask(KIND, &bytes, name.as_bytes()), Ok(Found::Charted(_))), "{damaged:?}");
+        }
+    }
+    // a file cut short
+    let bytes = file(&[a, c]);
+    for end in 1..bytes.len() {
+        if end != 50 {
+            assert_eq!(ask(KIND, &bytes[..end], b"refs/s/z").unwrap_err().number(), 4, "cut at {end}");
+        }
+    }
+}
+
+#[test]
+fn glances() {
+    let bytes = file(&[format!("{} refs/s/a\n", id('1')), format!("{} refs/s/b\n", id('?'))]);
+    let table = Table::new(KIND, &bytes);
+    assert!(matches!(table.glance(b"refs/s/a"), Ok(Glance::Charted(_))));
+    assert_eq!(table.glance(b"refs/s/b"), Ok(Glance::Unreadable(Some(50))));
+    assert_eq!(table.glance(b"refs/s/c"), Ok(Glance::NotFound));
+    assert_eq!(table.glance(b"refs").unwrap_err().number(), 3);
+    assert_eq!(Table::new(KIND, b"rubbish\n").glance(b"refs/s/a"), Ok(Glance::Unreadable(None)));
+    assert_eq!(Table::new(KIND, b"#\n").glance(b"refs/s/a").unwrap_err().number(), 2);
+}
+
+#[test]
+fn errors_say_what_to_do() {
+    let errors = [
+        header(b"# what\x1b[2J\n").unwrap_err(),
+        check_name(b"x").unwrap_err(),
+        Table::check(KIND, b"x\n").unwrap_err(),
+        merge(b"", &Edits::from_bytes(KIND, vec![9])).unwrap_err(),
+        merge(b"", &Edits::from_bytes(KIND, b"\x00\x01x".to_vec())).unwrap_err(),
+        merge(b"", &Edits::from_bytes(KIND, b"\x00\x03a/b\x00\x03a/b".to_vec())).unwrap_err(),
+        loose(KIND, b"").unwrap_err(),
+        loose(KIND, b"ref: x").unwrap_err(),
+    ];
+    for (error, number) in errors.iter().zip([2, 3, 4, 7, 8, 11, 15, 16]) {
+        assert_eq!(error.number(), number);
+        let words = error.to_string();
+        assert!(words.starts_with(&format!("number {number}: ")), "{words}");
+        assert!(words.ends_with(&format!(". {}", error.what_to_do())), "{words}");
+        assert!(!words.contains('\x1b'));
+    }
+    assert_eq!(errors[0].text(), b"# what\x1b[2J");
+    let long = [&[b'#'; 300][..], b"\n"].concat();
+    let error = header(&long).unwrap_err();
+    assert_eq!((error.text().len(), error.text_len()), (200, 300));
+}
+
+#[test]
+fn sha256() {
+    let (a, b) = ("a".repeat(64), "b".repeat(64));
+    let mut edits = Edits::new(IdKind::Sha256);
+    edits.update_peeled(b"refs/s/a", a.as_bytes(), b.as_bytes()).unwrap();
+    let Ok(Merged::New(new)) = merge(b"", &edits) else { panic!() };
+    let Ok(Found::Charted(record)) = ask(IdKind::Sha256, &new, b"refs/s/a") else { panic!() };
+    assert_eq!((record.id, record.peeled), (a.as_bytes(), Some(b.as_bytes())));
+    assert_eq!(Table::check(KIND, &new).unwrap_err().number(), 4);
+    assert_eq!(edits.update(b"refs/s/b", id('1').as_bytes()).unwrap_err().number(), 7);
+}
+
+#[test]
+fn lengths_of_edit_names() {
+    for (len, groups) in [(8, &[8][..]), (127, &[127]), (128, &[128, 1]), (4096, &[128, 32])] {
+        let name = format!("a/{}", "b".repeat(len - 2));
+        let mut edits = Edits::new(KIND);
+        edits.delete(name.as_bytes()).unwrap();
+        assert_eq!(edits.bytes()[1..1 + groups.len()], *groups);
+        assert_eq!(merge(b"", &edits), Ok(Merged::NothingToDo));
+    }
+    let name = format!("a/{}", "b".repeat(4095));
+    assert_eq!(Edits::new(KIND).delete(name.as_bytes()).unwrap_err().number(), 8);
+}
+
+#[test]
+fn as_many_edits_as_are_taken() {
+    // the longest output that a list can make: every edit an update with a peeled id, on names of three bytes and of 4,096
+    for len in [3, 4096] {
+        let mut edits = Edits::new(KIND);
+        for i in 0..4096u32 {
+            let digits = format!("{:0width$}", i, width = len - 2);
+            let tail = if len == 3 { char::from_u32(0x100 + i).unwrap().to_string() } else { digits };
+            edits.update_peeled(format!("a/{tail}").as_bytes(), id('1').as_bytes(), id('2').as_bytes()).unwrap();
+        }
+        let Ok(Merged::New(new)) = merge(b"", &edits) else { panic!() };
+        assert_eq!(Table::check(KIND, &new).unwrap().len(), 4096);
+        edits.delete(b"b/b").unwrap();
+        assert_eq!(merge(b"", &edits).unwrap_err().number(), 9);
+    }
+}
+
+/// Numbers that look random and are the same at each run.
+struct Dice(u64);
+
+impl Dice {
+    fn below(&mut self, n: usize) -> usize {
+        self.0 ^= self.0 << 13;
+        self.0 ^= self.0 >> 7;
+        self.0 ^= self.0 << 17;
+        (self.0 >> 11) as usize % n
+    }
+}
+
+type Model = BTreeMap<String, (String, Option<String>)>;
+
+fn write_out(model: &Model, header: &str, end: &str) -> Vec<u8> {
+    let mut text = header.to_string();
+    for (name, (id, peeled)) in model {
+        text += &format!("{id} {name}{end}");
+        if let Some(peeled) = peeled {
+            text += &format!("^{peeled}{end}");
+        }
+    }
+    text.into_bytes()
+}
+
+fn some_name(dice: &mut Dice) -> String {
+    let parts = ["a", "b", "ab", "zz", "\u{e4}", "o118", "a.b"];
+    let mut name = "refs".to_string();
+    for _ in 0..1 + dice.below(3) {
+        name += "/";
+        name += parts[dice.below(parts.len())];
+    }
+    name
+}
+
+fn some_id(dice: &mut Dice) -> String {
+    (0..40).map(|_| char::from(b"0123456789abcdef"[dice.below(16)])).collect()
+}
+
+fn some_model(dice: &mut Dice) -> Model {
+    let mut model = Model::new();
+    for _ in 0..dice.below(9) {
+        let peeled = (dice.below(3) == 0).then(|| some_id(dice));
+        model.insert(some_name(dice), (some_id(dice), peeled));
+    }
+    model
+}
+
+const HEADER: &str = "# pack-refs with: peeled fully-peeled sorted \n";
+
+#[test]
+fn merges_are_what_a_map_says() {
+    let mut dice = Dice(0x9e37_79b9_7f4a_7c15);
+    for _ in 0..3000 {
+        let old = some_model(&mut dice);
+        let header = ["", HEADER, "# pack-refs with: \r\n"][dice.below(3)];
+        let bytes = write_out(&old, header, ["\n", "\r\n"][dice.below(2)]);
+        let (mut new, mut edits) = (old.clone(), Edits::new(KIND));
+        let mut named = std::collections::BTreeSet::new();
+        let mut still = true;
+        for _ in 0..dice.below(6) {
+            let name = some_name(&mut dice);
+            if !named.insert(name.clone()) {
+                continue;
+            }
+            let (id, peeled) = (some_id(&mut dice), some_id(&mut dice));
+            match dice.below(3) {
+                0 => {
+                    edits.delete(name.as_bytes()).unwrap();
+                    still &= new.remove(&name).is_none();
+                }
+                1 => {
+                    edits.update(name.as_bytes(), id.to_uppercase().as_bytes()).unwrap();
+                    new.insert(name, (id, None));
+                    still = false;
+                }
+                _ => {
+                    edits.update_peeled(name.as_bytes(), id.as_bytes(), peeled.as_bytes()).unwrap();
+                    new.insert(name, (id, Some(peeled)));
+                    still = false;
+                }
+            }
+        }
+        let expected = match (still, new.is_empty()) {
+            (true, _) => Merged::NothingToDo,
+            (_, true) => Merged::RemoveFile,
+            _ => Merged::New(write_out(&new, HEADER, "\n")),
+        };
+        assert_eq!(merge(&bytes, &edits), Ok(expected));
+    }
+}
+
+#[test]
+fn lookups_agree_on_good_and_on_damaged_files() {
+    let mut dice = Dice(0x2545_f491_4f6c_dd1d);
+    let (mut passed, mut refused) = (0, 0);
+    for _ in 0..5000 {
+        let model = some_model(&mut dice);
+        let mut bytes = write_out(&model, ["", HEADER][dice.below(2)], ["\n", "\r\n"][dice.below(2)]);
+        for _ in 0..dice.below(3) {
+            if !bytes.is_empty() {
+                let at = dice.below(bytes.len());
+                bytes[at] = b"\n\r ^#/.a1g\x00\xff"[dice.below(12)];
+            }
+        }
+        let name = some_name(&mut dice);
+        let told = ask(KIND, &bytes, name.as_bytes());
+        let table = Table::new(KIND, &bytes);
+        let items = table.items();
+        let named = items.clone().ok().and_then(|items| items.flatten().find(|record| record.name == name.as_bytes()));
+        match Table::check(KIND, &bytes) {
+            Ok(checked) => {
+                passed += 1;
+                assert_eq!(told, checked.find(name.as_bytes()));
+                let all: Vec<_> = items.clone().unwrap().map(Result::unwrap).collect();
+                assert_eq!(checked.records().collect::<Vec<_>>(), all);
+                assert_eq!(checked.len(), all.len());
+                let prefix = &name.as_bytes()[..dice.below(name.len() + 1)];
+                let begins = all.iter().filter(|record| record.name.starts_with(prefix)).copied();
+                assert_eq!(checked.with_prefix(prefix).unwrap().collect::<Vec<_>>(), begins.collect::<Vec<_>>());
+                match told.unwrap() {
+                    Found::Charted(record) => assert_eq!(Some(record), named),
+                    Found::Absent => assert_eq!(None, named),
+                }
+            }
+            Err(error) => {
+                refused += 1;
+                match told {
+                    Ok(Found::Charted(record)) => assert_eq!(Some(record), named),
+                    Ok(Found::Absent) => panic!("absent in a file that fails the check"),
+                    Err(other) => {
+                        assert_eq!(error, other);
+                        assert_eq!(None, named);
+                    }
+                }
+                let _ = table.glance(name.as_bytes());
+            }
+        }
+        // every byte behind the header lies in exactly one item
+        if let Ok(mut items) = table.items() {
+            let mut at = items.place();
+            while let Some(item) = items.next() {
+                let start = match item {
+                    Ok(record) => record.place,
+                    Err(damage) => damage.place,
+                };
+                assert_eq!(start, at);
+                at = items.place();
+                assert!(at > start);
+            }
+            assert_eq!(at, bytes.len());
+        }
+    }
+    assert!(passed > 1000 && refused > 1000, "{passed} passed, {refused} refused");
+}

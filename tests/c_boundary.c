@@ -1,0 +1,338 @@
+/* Calls every function of include/packed_refs.h and compares each field of each answer. Run by c_boundary.sh. */
+#include "packed_refs.h"
+
+#include <stdio.h>
+#include <stdlib.h>
+#include <string.h>
+
+static int failures = 0;
+
+static void same(int line, const char *what, uint64_t got, uint64_t want)
+{
+    if (got == want)
+        return;
+    printf("line %d: %s is %llu, not %llu\n", line, what, (unsigned long long)got, (unsigned long long)want);
+    failures++;
+}
+
+#define SAME(got, want) same(__LINE__, #got, (uint64_t)(got), (uint64_t)(want))
+
+/* Bytes and their length, as two arguments. */
+#define BYTES(text) (const uint8_t *)(text), sizeof(text) - 1
+
+#define ONES "1111111111111111111111111111111111111111"
+#define TWOS "2222222222222222222222222222222222222222"
+#define THREES "3333333333333333333333333333333333333333"
+#define FOURS "4444444444444444444444444444444444444444"
+#define HEADER "# pack-refs with: peeled fully-peeled sorted \n"
+#define LINE_A ONES " refs/s/a\n"
+#define LINE_C TWOS " refs/s/c\n^" THREES "\n"
+#define OLD HEADER LINE_A LINE_C
+
+/* One byte over the size limit. */
+static const uint8_t *large;
+#define LARGE large, (size_t)1073741825
+
+static void header(int line, struct packed_refs_header_reply r, uint32_t number, uint32_t peeled, uint32_t sorted, size_t place, size_t text_len)
+{
+    same(line, "number", r.number, number);
+    same(line, "peeled", r.peeled, peeled);
+    same(line, "sorted", r.sorted, sorted);
+    same(line, "place", r.place, place);
+    same(line, "text_len", r.text_len, text_len);
+}
+
+static void test_header(void)
+{
+    header(__LINE__, packed_refs_header(BYTES("")), 0, 0, 0, 0, 0);
+    header(__LINE__, packed_refs_header(BYTES(LINE_A)), 0, 0, 0, 0, 0);
+    header(__LINE__, packed_refs_header(BYTES(OLD)), 0, 2, 1, 46, 0);
+    header(__LINE__, packed_refs_header(BYTES("# pack-refs with: peeled \n")), 0, 1, 0, 26, 0);
+    header(__LINE__, packed_refs_header(BYTES("# pack-refs with: sorted\r\n")), 0, 0, 1, 26, 0);
+    header(__LINE__, packed_refs_header(BYTES("# other\r\n" LINE_A)), 2, 0, 0, 0, 7);
+    header(__LINE__, packed_refs_header(LARGE), 17, 0, 0, 0, 0);
+}
+
+static void test_name(void)
+{
+    SAME(packed_refs_name(BYTES("refs/s/a")), 0);
+    SAME(packed_refs_name(BYTES("refs/s/a.lock")), 3);
+    SAME(packed_refs_name(BYTES("")), 3);
+    SAME(packed_refs_name(LARGE), 17);
+}
+
+static void start(int line, struct packed_refs_start_reply r, uint32_t number, size_t place, uint64_t item, size_t text_len)
+{
+    same(line, "number", r.number, number);
+    same(line, "place", r.place, place);
+    same(line, "item", r.item, item);
+    same(line, "text_len", r.text_len, text_len);
+}
+
+static void test_start(void)
+{
+    start(__LINE__, packed_refs_start(1, BYTES("")), 0, 0, 1, 0);
+    start(__LINE__, packed_refs_start(1, BYTES(OLD)), 0, 46, 2, 0);
+    start(__LINE__, packed_refs_start(2, BYTES("# other\n")), 2, 0, 0, 7);
+    start(__LINE__, packed_refs_start(0, BYTES(OLD)), 1, 0, 0, 0);
+    start(__LINE__, packed_refs_start(1, LARGE), 17, 0, 0, 0);
+}
+
+static void step(int line, struct packed_refs_step_reply r, struct packed_refs_step_reply want)
+{
+    same(line, "number", r.number, want.number);
+    same(line, "what", r.what, want.what);
+    same(line, "start", r.start, want.start);
+    same(line, "next", r.next, want.next);
+    same(line, "item", r.item, want.item);
+    same(line, "name_at", r.name_at, want.name_at);
+    same(line, "name_len", r.name_len, want.name_len);
+    same(line, "peeled_at", r.peeled_at, want.peeled_at);
+    same(line, "error", r.error, want.error);
+    same(line, "text_len", r.text_len, want.text_len);
+}
+
+static struct packed_refs_step_reply no_item(uint32_t number, size_t next, uint64_t item)
+{
+    struct packed_refs_step_reply r = {0, 0, 0, 0, 0, 0, 0, 0, 0, 0};
+    r.number = number;
+    r.next = next;
+    r.item = item;
+    return r;
+}
+
+static void test_step(void)
+{
+    const struct packed_refs_step_reply a = {0, 1, 46, 96, 3, 87, 8, 0, 0, 0};
+    const struct packed_refs_step_reply c = {0, 1, 96, 188, 4, 137, 8, 147, 0, 0};
+    const struct packed_refs_step_reply x = {0, 2, 1, 3, 8, 0, 0, 0, 7, 1};
+
+    step(__LINE__, packed_refs_step(1, BYTES(OLD), 46, 2), a);
+    step(__LINE__, packed_refs_step(1, BYTES(OLD), 96, 3), c);
+    step(__LINE__, packed_refs_step(1, BYTES(OLD), 188, 4), no_item(0, 188, 4));
+    step(__LINE__, packed_refs_step(1, BYTES(OLD), SIZE_MAX, UINT64_MAX), no_item(0, 188, UINT64_MAX));
+    step(__LINE__, packed_refs_step(1, BYTES("\nx\n"), 1, 7), x);
+    step(__LINE__, packed_refs_step(3, BYTES(OLD), 46, 2), no_item(1, 0, 0));
+    step(__LINE__, packed_refs_step(1, LARGE, 46, 2), no_item(17, 0, 0));
+
+    step(__LINE__, packed_refs_step_prefix(1, BYTES(OLD), BYTES("refs/s/"), 46, 2), a);
+    step(__LINE__, packed_refs_step_prefix(1, BYTES(OLD), BYTES("refs/s/c"), 46, 2), no_item(0, 188, 2));
+    step(__LINE__, packed_refs_step_prefix(1, BYTES("\nx\n"), BYTES("refs/s/c"), 1, 7), x);
+    step(__LINE__, packed_refs_step_prefix(3, BYTES(OLD), BYTES(""), 46, 2), no_item(1, 0, 0));
+    step(__LINE__, packed_refs_step_prefix(1, BYTES(OLD), LARGE, 46, 2), no_item(17, 0, 0));
+}
+
+static void check(int line, struct packed_refs_check_reply r, uint32_t number, size_t place, size_t count, size_t text_len)
+{
+    same(line, "number", r.number, number);
+    same(line, "place", r.place, place);
+    same(line, "count", r.count, count);
+    same(line, "text_len", r.text_len, text_len);
+}
+
+static void test_check(void)
+{
+    check(__LINE__, packed_refs_check(1, BYTES("")), 0, 0, 0, 0);
+    check(__LINE__, packed_refs_check(1, BYTES(OLD)), 0, 0, 2, 0);
+    check(__LINE__, packed_refs_check(1, BYTES("# other\n")), 2, 0, 0, 7);
+    check(__LINE__, packed_refs_check(2, BYTES(OLD)), 4, 46, 0, 0);
+    check(__LINE__, packed_refs_check(1, BYTES(LINE_C LINE_A)), 6, 92, 0, 0);
+    check(__LINE__, packed_refs_check(0, BYTES(OLD)), 1, 0, 0, 0);
+    check(__LINE__, packed_refs_check(1, LARGE), 17, 0, 0, 0);
+}
+
+static void test_record_start(void)
+{
+    SAME(packed_refs_record_start(BYTES(""), 9), 0);
+    SAME(packed_refs_record_start(BYTES(OLD), 95), 46);
+    SAME(packed_refs_record_start(BYTES(OLD), 150), 96);
+    SAME(packed_refs_record_start(BYTES(OLD), SIZE_MAX), 0);
+}
+
+static void lookup(int line, struct packed_refs_lookup_reply r, uint32_t number, size_t place, size_t name_at, size_t name_len, size_t peeled_at)
+{
+    same(line, "number", r.number, number);
+    same(line, "place", r.place, place);
+    same(line, "name_at", r.name_at, name_at);
+    same(line, "name_len", r.name_len, name_len);
+    same(line, "peeled_at", r.peeled_at, peeled_at);
+}
+
+static void test_lookup(void)
+{
+    lookup(__LINE__, packed_refs_lookup(1, BYTES(LINE_A LINE_C), BYTES("refs/s/a")), 0, 0, 41, 8, 0);
+    lookup(__LINE__, packed_refs_lookup(1, BYTES(LINE_A LINE_C), BYTES("refs/s/c")), 0, 50, 91, 8, 101);
+    lookup(__LINE__, packed_refs_lookup(2, BYTES(ONES "111111111111111111111111 refs/s/a\n"), BYTES("refs/s/a")), 0, 0, 65, 8, 0);
+    lookup(__LINE__, packed_refs_lookup(1, BYTES(LINE_A LINE_C), BYTES("refs/s/b")), 5, 0, 0, 0, 0);
+    lookup(__LINE__, packed_refs_lookup(1, BYTES(LINE_A LINE_C), BYTES("refs")), 3, 0, 0, 0, 0);
+    lookup(__LINE__, packed_refs_lookup(1, BYTES(LINE_A TWOS " refs/s/c\n^zz\n"), BYTES("refs/s/c")), 4, 50, 0, 0, 0);
+    lookup(__LINE__, packed_refs_lookup(1, BYTES("x\n"), BYTES("refs/s/c")), 4, 0, 0, 0, 0);
+    lookup(__LINE__, packed_refs_lookup(3, BYTES(LINE_A), BYTES("refs/s/a")), 1, 0, 0, 0, 0);
+    lookup(__LINE__, packed_refs_lookup(1, BYTES(LINE_A), LARGE), 17, 0, 0, 0, 0);
+}
+
+static void prefix(int line, struct packed_refs_prefix_reply r, uint32_t number, size_t place, uint64_t item, size_t text_at, size_t text_len)
+{
+    same(line, "number", r.number, number);
+    same(line, "place", r.place, place);
+    same(line, "item", r.item, item);
+    same(line, "text_at", r.text_at, text_at);
+    same(line, "text_len", r.text_len, text_len);
+}
+
+static void test_prefix(void)
+{
+    prefix(__LINE__, packed_refs_prefix(1, BYTES(LINE_A LINE_C), BYTES("refs/s/c")), 0, 50, 1, 0, 0);
+    prefix(__LINE__, packed_refs_prefix(1, BYTES(LINE_A LINE_C), BYTES("refs/s/")), 0, 0, 1, 0, 0);
+    prefix(__LINE__, packed_refs_prefix(1, BYTES("# other\n"), BYTES("")), 2, 0, 0, 0, 7);
+    prefix(__LINE__, packed_refs_prefix(1, BYTES("a\n#bbbbbb\n"), BYTES("")), 2, 0, 0, 2, 7);
+    prefix(__LINE__, packed_refs_prefix(0, BYTES(LINE_A), BYTES("")), 1, 0, 0, 0, 0);
+    prefix(__LINE__, packed_refs_prefix(1, LARGE, BYTES("")), 17, 0, 0, 0, 0);
+}
+
+static void ask(
+    int line, struct packed_refs_ask_reply r, uint32_t number, size_t place, size_t name_at, size_t name_len, size_t peeled_at, size_t text_len)
+{
+    same(line, "number", r.number, number);
+    same(line, "place", r.place, place);
+    same(line, "name_at", r.name_at, name_at);
+    same(line, "name_len", r.name_len, name_len);
+    same(line, "peeled_at", r.peeled_at, peeled_at);
+    same(line, "text_len", r.text_len, text_len);
+}
+
+static void test_ask(void)
+{
+    ask(__LINE__, packed_refs_ask(1, BYTES(OLD), BYTES("refs/s/a")), 0, 46, 87, 8, 0, 0);
+    ask(__LINE__, packed_refs_ask(1, BYTES(OLD), BYTES("refs/s/c")), 0, 96, 137, 8, 147, 0);
+    ask(__LINE__, packed_refs_ask(1, BYTES(OLD), BYTES("refs/s/b")), 5, 0, 0, 0, 0, 0);
+    ask(__LINE__, packed_refs_ask(1, BYTES(OLD), BYTES("refs")), 3, 0, 0, 0, 0, 0);
+    ask(__LINE__, packed_refs_ask(1, BYTES("# other\n"), BYTES("refs/s/a")), 2, 0, 0, 0, 0, 7);
+    ask(__LINE__, packed_refs_ask(1, BYTES(LINE_A "x\n"), BYTES("refs/s/b")), 4, 50, 0, 0, 0, 0);
+    ask(__LINE__, packed_refs_ask(1, BYTES(LINE_C LINE_A), BYTES("refs/s/b")), 6, 92, 0, 0, 0, 0);
+    ask(__LINE__, packed_refs_ask(9, BYTES(OLD), BYTES("refs/s/a")), 1, 0, 0, 0, 0, 0);
+    ask(__LINE__, packed_refs_ask(1, BYTES(OLD), LARGE), 17, 0, 0, 0, 0, 0);
+}
+
+static void merge(int line, struct packed_refs_merge_reply r, uint32_t number, size_t place, size_t length, size_t text_len)
+{
+    same(line, "number", r.number, number);
+    same(line, "place", r.place, place);
+    same(line, "length", r.length, length);
+    same(line, "text_len", r.text_len, text_len);
+}
+
+#define RAW_FOURS "DDDDDDDDDDDDDDDDDDDD" /* twenty bytes 0x44 */
+#define DELETE_C "\0\10refs/s/c"
+#define DELETE_A "\0\10refs/s/a"
+#define UPDATE_B "\1\10refs/s/b" RAW_FOURS
+
+static void test_merge(void)
+{
+    static const char new_file[] = HEADER LINE_A FOURS " refs/s/b\n";
+    static const char twice[] = DELETE_A DELETE_A;
+    uint32_t index[4] = {7, 7, 7, 7};
+    uint8_t out[200];
+    size_t i;
+
+    /* Nothing is written by a refusal before 11. */
+    memset(out, 'z', sizeof out);
+    merge(__LINE__, packed_refs_merge(0, BYTES(OLD), BYTES(UPDATE_B), index, 4, out, 200), 1, 0, 0, 0);
+    merge(__LINE__, packed_refs_merge(1, LARGE, BYTES(UPDATE_B), index, 4, out, 200), 17, 0, 0, 0);
+    merge(__LINE__, packed_refs_merge(1, BYTES(OLD), BYTES(DELETE_C "\3"), index, 4, out, 200), 7, 10, 0, 0);
+    merge(__LINE__, packed_refs_merge(1, BYTES(OLD), BYTES(DELETE_C "\0\4refs"), index, 4, out, 200), 8, 10, 0, 0);
+    merge(__LINE__, packed_refs_merge(1, BYTES(OLD), BYTES(DELETE_C UPDATE_B), index, 1, out, 200), 10, 0, 0, 0);
+    for (i = 0; i < 4; i++)
+        SAME(index[i], 7);
+
+    /* From 11 on the index is written, and not behind the edits. */
+    merge(__LINE__, packed_refs_merge(1, BYTES(OLD), BYTES(twice), index, 4, out, 200), 11, 10, 0, 0);
+    SAME(index[0], 0);
+    SAME(index[1], 10);
+    SAME(index[2], 7);
+    merge(__LINE__, packed_refs_merge(1, BYTES("# other\n"), BYTES(UPDATE_B), index, 4, out, 200), 2, 0, 0, 7);
+    merge(__LINE__, packed_refs_merge(1, BYTES(LINE_A "x\n"), BYTES(UPDATE_B), index, 4, out, 200), 4, 50, 0, 0);
+    merge(__LINE__, packed_refs_merge(1, BYTES(LINE_C LINE_A), BYTES(UPDATE_B), index, 4, out, 200), 6, 92, 0, 0);
+    merge(__LINE__, packed_refs_merge(1, BYTES(LINE_A), BYTES(DELETE_C), index, 4, out, 200), 13, 0, 0, 0);
+    merge(__LINE__, packed_refs_merge(1, BYTES(LINE_A), BYTES(DELETE_A), index, 4, out, 200), 14, 0, 0, 0);
+    merge(__LINE__, packed_refs_merge(1, BYTES(OLD), BYTES(DELETE_C UPDATE_B), index, 4, out, 145), 12, 0, 0, 0);
+    for (i = 0; i < sizeof out; i++)
+        SAME(out[i], 'z');
+
+    merge(__LINE__, packed_refs_merge(1, BYTES(OLD), BYTES(DELETE_C UPDATE_B), index, 4, out, 200), 0, 0, 146, 0);
+    SAME(index[0], 10);
+    SAME(index[1], 0);
+    SAME(index[2], 7);
+    SAME(sizeof new_file - 1, 146);
+    SAME(memcmp(out, new_file, 146), 0);
+    for (i = 146; i < sizeof out; i++)
+        SAME(out[i], 'z');
+}
+
+/* 9: a byte behind 4,096 good edits. */
+static void test_many_edits(void)
+{
+    enum { COUNT = 4096, SIZE = 10 };
+    static uint8_t edits[COUNT * SIZE + 1];
+    static uint32_t index[COUNT];
+    uint8_t out[1] = {0};
+    char name[9];
+    size_t i;
+
+    for (i = 0; i < COUNT; i++) {
+        edits[i * SIZE + 1] = 8;
+        sprintf(name, "r/%06u", (unsigned)i);
+        memcpy(edits + i * SIZE + 2, name, 8);
+    }
+    merge(__LINE__, packed_refs_merge(1, BYTES(OLD), edits, sizeof edits, index, COUNT, out, 1), 9, (size_t)COUNT * SIZE, 0, 0);
+    merge(__LINE__, packed_refs_merge(1, BYTES(OLD), edits, sizeof edits - 1, index, COUNT, out, 1), 13, 0, 0, 0);
+    SAME(index[COUNT - 1], (COUNT - 1) * SIZE);
+}
+
+static void loose(int line, struct packed_refs_loose_reply r, uint32_t number, uint32_t what, size_t at, size_t len)
+{
+    same(line, "number", r.number, number);
+    same(line, "what", r.what, what);
+    same(line, "at", r.at, at);
+    same(line, "len", r.len, len);
+}
+
+static void test_loose(void)
+{
+    loose(__LINE__, packed_refs_loose(1, BYTES(ONES "\n")), 0, 1, 0, 40);
+    loose(__LINE__, packed_refs_loose(2, BYTES(ONES "111111111111111111111111")), 0, 1, 0, 64);
+    loose(__LINE__, packed_refs_loose(1, BYTES("ref:  refs/s/a\n")), 0, 2, 6, 8);
+    loose(__LINE__, packed_refs_loose(1, BYTES(ONES "1\n")), 15, 0, 0, 0);
+    loose(__LINE__, packed_refs_loose(1, BYTES("ref: refs\n")), 16, 0, 0, 0);
+    loose(__LINE__, packed_refs_loose(3, BYTES(ONES)), 1, 0, 0, 0);
+    loose(__LINE__, packed_refs_loose(1, LARGE), 17, 0, 0, 0);
+}
+
+int main(void)
+{
+    uint8_t *zeros = calloc(1073741825, 1);
+    if (zeros == NULL) {
+        printf("no memory for the size limit's test\n");
+        return 1;
+    }
+    large = zeros;
+    test_header();
+    test_name();
+    test_start();
+    test_step();
+    test_check();
+    test_record_start();
+    test_lookup();
+    test_prefix();
+    test_ask();
+    test_merge();
+    test_many_edits();
+    test_loose();
+    free(zeros);
+    if (failures != 0) {
+        printf("%d answers differ\n", failures);
+        return 1;
+    }
+    printf("every function answers C as it should\n");
+    return 0;
+}

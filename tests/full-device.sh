@@ -1,0 +1,43 @@
+# A merge onto a device that is full, and beyond a limit on a file's size: the old file stays whole, no lock is left, the status is 2.
+set -u
+cd "$(dirname "$0")/.." || exit 1
+dir=$(mktemp -d) || exit 1
+trap 'rm -rf "$dir"' EXIT
+./packed-refs --version >/dev/null || exit 1
+program=$PWD/rust/target/release/packed-refs
+
+# lines FROM TO: records
+lines() { seq -f '%07.0f' "$1" "$2" | sed 's,.*,0000000000000000000000000000000000000001 refs/s/&,'; }
+lines 1 1000 >"$dir/old"
+lines 1001 3000 | sed 's,\(.*\) \(.*\),update \2 \1,' >"$dir/edits"
+
+cat >"$dir/try" <<'E2'
+# try WHERE: merges into WHERE/refs, which there is no room for
+where=$1
+cp "$dir/old" "$where/refs" || exit 1
+said=$("$program" merge "$where/refs" "$dir/edits" -o "$where/refs" 2>&1)
+got=$?
+[ $got -eq 2 ] || { echo "wanted 2, got $got: $said"; exit 1; }
+case $said in *"can't be written, and is as it was: "*) ;; *) echo "said: $said"; exit 1 ;; esac
+cmp "$dir/old" "$where/refs" || exit 1
+[ ! -e "$where/refs.lock" ] || { echo "the lock was left"; exit 1; }
+E2
+export dir program
+
+mkdir "$dir/small"
+mounted='mount -t tmpfs -o size=128k tmpfs "$dir/small" || exit 77; bash "$dir/try" "$dir/small"'
+if [ "$(id -u)" -eq 0 ]; then unshare -m bash -c "$mounted"; else unshare -rm bash -c "$mounted"; fi 2>"$dir/why"
+case $? in
+    0) echo "a full device: the old file stays" ;;
+    77) echo "a full device: not tried, no tmpfs can be mounted here: $(cat "$dir/why")" ;;
+    *) cat "$dir/why"; echo "a full device: failed"; exit 1 ;;
+esac
+
+mkdir "$dir/limited"
+bash -c 'trap "" XFSZ; ulimit -f 100; bash "$dir/try" "$dir/limited"' || { echo "a limit on the size: failed"; exit 1; }
+# the same without a handler: the system kills the program in its write
+cp "$dir/old" "$dir/limited/refs"
+(ulimit -c 0 -f 100; "$program" merge "$dir/limited/refs" "$dir/edits" -o "$dir/limited/refs"; exit $?) 2>/dev/null
+[ $? -gt 128 ] || { echo "the program was not killed"; exit 1; }
+cmp "$dir/old" "$dir/limited/refs" || exit 1
+echo "a limit on the size: the old file stays"
