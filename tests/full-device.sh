@@ -25,13 +25,15 @@ E2
 export dir program
 
 mkdir "$dir/small"
-mounted='mount -t tmpfs -o size=128k tmpfs "$dir/small" || exit 77; bash "$dir/try" "$dir/small"'
-if [ "$(id -u)" -eq 0 ]; then unshare -m bash -c "$mounted"; else unshare -rm bash -c "$mounted"; fi 2>"$dir/why"
-case $? in
-    0) echo "a full device: the old file stays" ;;
-    77) echo "a full device: not tried, no tmpfs can be mounted here: $(cat "$dir/why")" ;;
-    *) cat "$dir/why"; echo "a full device: failed"; exit 1 ;;
-esac
+own=-m
+[ "$(id -u)" -eq 0 ] || own=-rm
+if unshare $own mount -t tmpfs -o size=128k tmpfs "$dir/small" 2>"$dir/why"; then
+    unshare $own bash -c 'mount -t tmpfs -o size=128k tmpfs "$dir/small" && bash "$dir/try" "$dir/small"' ||
+        { echo "a full device: failed"; exit 1; }
+    echo "a full device: the old file stays"
+else
+    echo "a full device: not tried, since no tmpfs can be mounted here: $(cat "$dir/why")"
+fi
 
 mkdir "$dir/limited"
 bash -c 'trap "" XFSZ; ulimit -f 100; bash "$dir/try" "$dir/limited"' || { echo "a limit on the size: failed"; exit 1; }

@@ -229,17 +229,19 @@ fn list(kind: IdKind, file: &OsStr, prefix: &[u8], out: &mut Out) -> Ended {
         }
         Err(error) => error,
     };
+    // Damage can be everywhere: its words are gathered, as the records are. If they can't be written, the status still says it.
+    let mut err = BufWriter::new(io::stderr());
     for item in report::all_items(kind, &input.bytes)? {
         match item {
             Ok(record) if record.name.starts_with(prefix) => report::write_record(out, &record)?,
             Ok(_) => {}
             Err(damage) => {
-                out.flush()?;
-                say(&format!("{}: not listed: {}", input.name, report::shown(&damage)));
+                let _ = writeln!(err, "packed-refs: {}: not listed: {}", input.name, report::shown(&damage));
             }
         }
     }
     out.flush()?;
+    let _ = err.flush();
     Err(Trouble::Refused(refusal(&input, "only what can be read is listed: ", &error)))
 }
 
