@@ -2,22 +2,20 @@
 use mathlib.Core.Path.{_≡_, refl, sym, ap, _∙_}
 use mathlib.Core.Bool.{Bool, true, false}
 use mathlib.Core.Logic.{_⊎_, inl, inr}
-use mathlib.Core.List.{List, [], _∷_, _++_}
-use Prim.Native.Nat.{ℕ, zero, suc, _+_, _-_, _≤_, _<_}
+use mathlib.Core.List.{List}
+use Prim.Native.Nat.{ℕ, suc, _+_, _-_, _≤_, _<_}
 use native.Mathlib.Nat.{zero-add}
-use native.Mathlib.Numerals.{add-one}
 use native.Mathlib.Omega.{arith}
-use lib.ListN.{getD, length, take, drop, length-append, length-drop}
-use lib.Seq.{drop-append-le, take-append-le, drop-drop}
-use Rattle.parse.specs.declared.part.Past.the-variants.{At, Unread}
-use Rattle.parse.specs.declared.line.Text.the-variants.{Ended, Unended}
-use Rattle.parse.specs.Class.{Classes, paper, isHex}
+use lib.ListN.{getD, length, take, drop, length-drop}
+use lib.Seq.{drop-drop}
+use Rattle.parse.specs.declared.part.Past.the-variants.{At}
+use Rattle.parse.specs.declared.line.Text.the-variants.{Ended}
+use Rattle.parse.specs.Class.{Classes}
 use Rattle.parse.specs.Run.{span}
 use Rattle.parse.specs.Part.{byteAt}
 use Rattle.parse.specs.Id.{idAt}
-use Rattle.parse.specs.Line.{eol, lineLen, newlineAt, textLen, textAt}
-use Rattle.parse.proofs.Runs.{span-le}
-use Rattle.parse.proofs.Fronts.{at-drop, same-at, span-local, span-ge, lineLen-skip, eol-local, eol-le, eol-line, hex-no10, text-no10}
+use Rattle.parse.specs.Line.{eol, textLen, textAt}
+use Rattle.parse.proofs.Fronts.{eol-le}
 use Rattle.parse.proofs.Views.{IdView, id, no-id, id-view, ByteView, there, not-there, byte-view, NewlineView, newline, no-newline, newline-view, textEnd, TextView, text, no-text, text-view}
 use Rattle.name.specs.Name.{validName}
 use Rattle.decode.specs.declared.reference.Fault.{Fault}
@@ -27,6 +25,10 @@ use Rattle.decode.specs.declared.reference.Reading.{Reading}
 use Rattle.decode.specs.declared.reference.Reading.the-variants.{Good, Bad}
 use Rattle.decode.specs.Record.{recordOf}
 use Rattle.decode.proofs.Parts as parts
+
+pub good-alike : {a a′ o o′ z z′ : ℕ} → a ≡ a′ → o ≡ o′ → z ≡ z′
+    → _≡_ {A = Reading} (Good (record { name = a; object = o; size = z })) (Good (record { name = a′; object = o′; size = z′ }))
+good-alike p q r = λ i. Good (record { name = p i; object = q i; size = r i })
 
 module _ (byte : Classes) (n : ℕ) where
   -- ---- the two lines of a record. A length says how far the line goes where it can be read
@@ -60,10 +62,6 @@ module _ (byte : Classes) (n : ℕ) where
     plain : Head s → (getD s (headLen s) 0 ≡ 94 → ⊥) → recordOf byte n s ≡ Good (record { name = nameLen s; object = 0; size = headLen s }) → View s
     peeled : Head s → getD s (headLen s) 0 ≡ 94 → Peel (drop (headLen s) s)
         → recordOf byte n s ≡ Good (record { name = nameLen s; object = suc (headLen s); size = headLen s + peelLen (drop (headLen s) s) }) → View s
-
-  good-alike : {a a′ o o′ z z′ : ℕ} → a ≡ a′ → o ≡ o′ → z ≡ z′
-      → _≡_ {A = Reading} (Good (record { name = a; object = o; size = z })) (Good (record { name = a′; object = o′; size = z′ }))
-  good-alike p q r = λ i. Good (record { name = p i; object = q i; size = r i })
 
   -- the places that the reading goes through, by the two lines' lengths
   module _ (s : List ℕ) where

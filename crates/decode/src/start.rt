@@ -22,7 +22,7 @@ pub fn record_start(s: &[u8], place: usize) -> usize
 }
 
 // The byte after the last LF before a place, or 0. A place beyond the end counts as the end.
-pub fn line_start(s: &[u8], place: usize) -> usize
+pub(crate) fn line_start(s: &[u8], place: usize) -> usize
     ensures { λ r. ⌜ r ≡ lineStart (now (s .entry)) place ⌝ }
 {
     if s.len() < place {

@@ -4,3 +4,4 @@ pub mod Filling
 pub mod Lists
 pub mod Ordering
 pub mod Outcomes
+pub mod Parts

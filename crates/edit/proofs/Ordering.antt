@@ -1,27 +1,12 @@
 -- Putting places in order keeps their number, and a part that was put in order stands in front of the rest.
-use mathlib.Core.Path.{_≡_, refl, sym, ap, _∙_}
-use mathlib.Core.Bool.{Bool, true, false}
-use mathlib.Core.List.{List, [], _∷_, _++_}
-use Prim.Native.Nat.{ℕ, suc, _≤_}
+use mathlib.Core.Path.{_≡_, ap, _∙_}
+use mathlib.Core.List.{List, _++_}
+use Prim.Native.Nat.{ℕ, _≤_}
 use native.Mathlib.Omega.{arith}
 use lib.ListN.{length, take, drop, length-append, length-drop}
 use lib.Seq.{length-take-le, take-at, drop-at}
-use Rattle.parse.specs.Choice.{if}
-use Rattle.sort.specs.Sorted.{insert, sorted}
+use Rattle.sort.proofs.Sorting.{length-sorted}
 use Rattle.edit.specs.List.{inOrder}
-
-length-insert : (lt : ℕ → ℕ → Bool) (p : ℕ) (l : List ℕ) → length (insert lt p l) ≡ suc (length l)
-length-insert lt p [] = refl
-length-insert lt p (q ∷ l) = go (lt q p) (length-insert lt p l)
-  where
-    go : (t : Bool) → length (insert lt p l) ≡ suc (length l) → length (if t (q ∷ insert lt p l) (p ∷ q ∷ l)) ≡ suc (suc (length l))
-    go true e = ap suc e
-    go false e = refl
-
-length-sorted : (lt : ℕ → ℕ → Bool) (l : List ℕ) → length (sorted lt l) ≡ length l
-unfolding sorted
-length-sorted lt [] = refl
-length-sorted lt (p ∷ l) = length-insert lt p (sorted lt l) ∙ ap suc (length-sorted lt l)
 
 -- of the first k entries
 pub length-order : (list index : List ℕ) (k : ℕ) → k ≤ length index → length (inOrder list (take k index)) ≡ k

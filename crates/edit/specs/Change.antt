@@ -1,5 +1,5 @@
 -- One edit at the front of the bytes s, with ids of n digits.
-use mathlib.Core.Bool.{Bool, _&&_, _||_}
+use mathlib.Core.Bool.{_&&_, _||_}
 use mathlib.Core.List.{List, []}
 use Prim.Native.Nat.{ℕ, _+_, _*_, _/_, _%_}
 use lib.Dec.{leb, ltb, eqb}
@@ -9,7 +9,6 @@ use Rattle.parse.specs.Class.{Classes}
 use Rattle.name.specs.Name.{validName}
 use Rattle.edit.specs.declared.change.Length.{Length}
 use Rattle.edit.specs.declared.change.Length.the-variants as long
-use Rattle.edit.specs.declared.change.Change.{Change}
 use Rattle.edit.specs.declared.change.Reading.{Reading}
 use Rattle.edit.specs.declared.change.Reading.the-variants.{Good, Malformed, BadName}
 
@@ -32,21 +31,22 @@ measured long.Malformed f other = other
 abbrev pub idBytes : ℕ → ℕ → ℕ
 idBytes kind n = kind * (n / 2)
 
+-- the end of the sentence below, once kind, length form and ids are known: "length 0 or over 4,096 (8), cut short anywhere behind it (7),
+-- name rules (8)"
+unfoldable pub namedChange : Classes → List ℕ → ℕ → ℕ → ℕ → ℕ → Reading
+namedChange byte s kind from len ids =
+    if (eqb len 0 || ltb 4096 len) BadName
+    (if (leb (from + len + ids) (length s))
+    (if (validName byte (take len (drop from s))) (Good (record { kind = kind; from = from; name = len; size = from + len + ids })) BadName)
+    Malformed)
+
 -- "In each edit: kind (7), length form, an unfinished length included (7), length 0 or over 4,096 (8), cut short anywhere behind it (7),
 -- name rules (8)." "Kind byte: 0 delete, 1 update, 2 update with peeled id."
 unfoldable pub changeOf : Classes → ℕ → List ℕ → Reading
 changeOf byte n s =
     let kind = getD s 0 0 in
     if (ltb 0 (length s) && leb kind 2)
-    (measured (lengthAt s 1)
-    (λ len from.
-    if (eqb len 0 || ltb 4096 len) BadName
-    (if (leb (from + len + idBytes kind n) (length s))
-    (if (validName byte (take len (drop from s)))
-    (Good (record { kind = kind; from = from; name = len; size = from + len + idBytes kind n }))
-    BadName)
-    Malformed))
-    Malformed)
+    (measured (lengthAt s 1) (λ len from. namedChange byte s kind from len (idBytes kind n)) Malformed)
     Malformed
 
 -- what stands behind the name of the edit at a place: its ids

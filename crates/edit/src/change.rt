@@ -4,7 +4,7 @@ ghost use Prim.Native.Nat.{_+_, _<_};
 ghost use lib.Dec.{leb};
 ghost use lib.ListN.{length};
 ghost use Rattle.parse.specs.Class.{classesOf};
-ghost use Rattle.edit.specs.Change.{lengthAt, changeOf, behindName};
+ghost use Rattle.edit.specs.Change.{lengthAt, namedChange, changeOf, behindName};
 
 // A length and the place behind it; or a form that a length doesn't have.
 pub enum Length {
@@ -30,7 +30,7 @@ pub enum Reading {
 }
 
 // The length that stands at a place: groups of seven bits, low group first, top bit set on all but the last.
-pub fn length_at(s: &[u8], at: usize) -> Length
+pub(crate) fn length_at(s: &[u8], at: usize) -> Length
     ensures { λ r. ⌜ r ≡ lengthAt (now (s .entry)) at ⌝ }
 {
     if s.len() <= at {
@@ -58,7 +58,7 @@ pub fn length_at(s: &[u8], at: usize) -> Length
 }
 
 // The edit at the front of the bytes, with ids of n digits.
-pub fn read(t: &[u8; 256], n: usize, s: &[u8]) -> Reading
+pub(crate) fn read(t: &[u8; 256], n: usize, s: &[u8]) -> Reading
     ensures { λ r. ⌜ r ≡ changeOf (classesOf (now (t .entry))) n (now (s .entry)) ⌝ }
 {
     if s.len() == 0 {
@@ -71,24 +71,30 @@ pub fn read(t: &[u8; 256], n: usize, s: &[u8]) -> Reading
     let Length::Of { value, next } = length_at(s, 1) else {
         return Reading::Malformed;
     };
-    if value == 0 {
+    behind_length(t, s, kind, next, value, wide(kind) * (n / 2))
+}
+
+// The edit whose name has this length and stands at this place, with ids of so many bytes behind it.
+fn behind_length(t: &[u8; 256], s: &[u8], kind: u8, from: usize, len: usize, ids: usize) -> Reading
+    ensures { λ r. ⌜ r ≡ namedChange (classesOf (now (t .entry))) (now (s .entry)) kind from len ids ⌝ }
+{
+    if len == 0 {
         return Reading::BadName;
     }
-    if 4096 < value {
+    if 4096 < len {
         return Reading::BadName;
     }
-    let ids = wide(kind) * (n / 2);
-    if !stands(s, next, value, ids) {
+    if !stands(s, from, len, ids) {
         return Reading::Malformed;
     }
-    if !name::is_valid_by(t, parse::part::between(s, next, next + value)) {
+    if !name::is_valid_by(t, parse::part::between(s, from, from + len)) {
         return Reading::BadName;
     }
     Reading::Good(Change {
         kind,
-        from: next,
-        name: value,
-        size: next + value + ids,
+        from,
+        name: len,
+        size: from + len + ids,
     })
 }
 

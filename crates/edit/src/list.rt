@@ -32,7 +32,7 @@ pub enum Prepared {
 }
 
 // The number of edits, or the first fault.
-pub fn count(t: &[u8; 256], n: usize, list: &[u8]) -> Edits
+pub(crate) fn count(t: &[u8; 256], n: usize, list: &[u8]) -> Edits
     ensures { λ r. ⌜ r ≡ told 0 (editsOf (classesOf (now (t .entry))) n (now (list .entry))) ⌝ }
 {
     let mut place = 0;

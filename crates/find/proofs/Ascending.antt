@@ -7,10 +7,10 @@ use lib.ListN.{length, length-append}
 use Rattle.parse.specs.declared.order.Order.the-variants.{Less}
 use Rattle.parse.specs.Class.{Classes}
 use Rattle.parse.specs.Order.{orderOf}
+use Rattle.parse.proofs.Orders.{less-trans}
 use Rattle.iter.specs.Items.{Item, items, bytesOf, nameOf}
 use Rattle.iter.specs.Passes.{ascending}
 use Rattle.iter.specs.Stands.{Stands}
-use Rattle.find.proofs.Names.{less-trans}
 
 module _ (n : ℕ) where
   above-all : (last : List ℕ) (before : List Item) (it : Item) (after : List Item) → ascending n last (before ++ it ∷ after)

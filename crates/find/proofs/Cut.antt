@@ -10,6 +10,7 @@ use borrow.Author.Tests.{ltb-true, ltb-false}
 use Rattle.parse.specs.declared.order.Order.the-variants.{Less, Equal, Greater}
 use Rattle.parse.specs.Class.{paper}
 use Rattle.parse.specs.Order.{orderOf}
+use Rattle.parse.proofs.Orders.{order-equal}
 use Rattle.decode.specs.Start.{recordStart}
 use Rattle.iter.specs.Items.{Item, nameOf}
 use Rattle.iter.specs.Stands.{Stands}
@@ -18,7 +19,6 @@ use Rattle.find.specs.Search.{orderAt, placed, searchOf}
 use Rattle.find.specs.Listing.{placeOf}
 use Rattle.find.proofs.Ascending.{Apart, same, first, second}
 use Rattle.find.proofs.Checked.{Checked, two-records}
-use Rattle.find.proofs.Names.{order-equal}
 use Rattle.find.proofs.Outcome.{Outcome, found, parted}
 use Rattle.find.proofs.RecordStarts.{end-start}
 use Rattle.find.proofs.Searched.{halves}

@@ -8,6 +8,7 @@ use lib.ListN.{drop}
 use Rattle.parse.specs.declared.order.Order.the-variants.{Less}
 use Rattle.parse.specs.Class.{paper}
 use Rattle.parse.specs.Order.{orderOf}
+use Rattle.parse.proofs.Orders.{order-refl}
 use Rattle.name.specs.Name.{validName}
 use Rattle.decode.specs.declared.reference.Record.{Record}
 use Rattle.decode.specs.declared.reference.Reading.{Reading}
@@ -24,11 +25,10 @@ use Rattle.find.specs.Lookup.{lookupOf}
 use Rattle.find.specs.Present.{Named, FoundExactly}
 use Rattle.find.proofs.Ascending.{Apart, same, first, second}
 use Rattle.find.proofs.Checked.{Checked, checked, good-at, two-records}
-use Rattle.find.proofs.Names.{order-refl}
 use Rattle.find.proofs.Searched.{Searched, hit, miss, searched}
 use Rattle.find.proofs.Sides.{side}
 
-good-record : (w : Reading) → isGood w ≡ true → (r : Record) × (w ≡ Good r)
+pub good-record : (w : Reading) → isGood w ≡ true → (r : Record) × (w ≡ Good r)
 good-record (Good r) h = (r, refl)
 good-record (Bad f) h = absurd (let z : _≡_ {A = ℕ} 0 1 = cc in omega arith)
 

@@ -11,10 +11,10 @@ use Rattle.parse.specs.declared.order.Order.the-variants.{Less}
 use Rattle.parse.specs.Choice.{if}
 use Rattle.parse.specs.Order.{orderOf}
 use Rattle.parse.specs.Prefix.{begins}
+use Rattle.parse.proofs.Orders.{less-split, less-trans}
 use Rattle.iter.specs.Items.{Item, nameOf}
 use Rattle.iter.specs.Passes.{ascending}
 use Rattle.find.specs.Present.{withPrefix}
-use Rattle.find.proofs.Names.{less-split, less-trans}
 
 -- ---- names
 

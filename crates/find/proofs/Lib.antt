@@ -9,7 +9,6 @@ pub mod InFile
 pub mod ItemAt
 pub mod Leading
 pub mod Lists
-pub mod Names
 pub mod Outcome
 pub mod Places
 pub mod Probes

@@ -9,6 +9,7 @@ use lib.ListN.{length, drop}
 use Rattle.parse.specs.declared.order.Order.the-variants.{Less, Greater}
 use Rattle.parse.specs.Class.{paper}
 use Rattle.parse.specs.Order.{orderOf}
+use Rattle.parse.proofs.Orders.{less-trans, less-flip, greater-flip}
 use Rattle.decode.specs.Start.{recordStart}
 use Rattle.iter.specs.Items.{Item, itemOf, nameOf}
 use Rattle.iter.specs.Stands.{Stands}
@@ -19,7 +20,6 @@ use Rattle.find.proofs.Ascending.{Apart, same, first, second}
 use Rattle.find.proofs.Checked.{Checked, good-at, two-records}
 use Rattle.find.proofs.GoodShape.{good-probed}
 use Rattle.find.proofs.ItemAt.{lies}
-use Rattle.find.proofs.Names.{less-trans, less-flip, greater-flip}
 use Rattle.find.proofs.Outcome.{Ascends}
 use Rattle.find.proofs.RecordStarts.{start-of}
 

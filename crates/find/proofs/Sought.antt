@@ -6,6 +6,7 @@ use Prim.Native.Nat.{ℕ, _+_}
 use native.Mathlib.Omega.{arith}
 use lib.ListN.{length, length-append}
 use Rattle.parse.specs.Prefix.{same}
+use Rattle.parse.proofs.Prefixes.{same-is, same-self}
 use Rattle.decode.specs.declared.reference.Record.{Record}
 use Rattle.decode.specs.declared.reference.Reading.{Reading}
 use Rattle.decode.specs.declared.reference.Reading.the-variants.{Good, Bad}
@@ -13,7 +14,6 @@ use Rattle.iter.specs.Items.{Item, bytesOf, nameOf}
 use Rattle.find.specs.declared.ask.Sought.{Sought}
 use Rattle.find.specs.declared.ask.Sought.the-variants.{At, Nowhere}
 use Rattle.find.specs.Ask.{soughtBy, firstNamed}
-use Rattle.find.proofs.Names.{same-is, same-self}
 
 -- of some items that begin at a place, one is a record of the name, and the bytes of those before it reach to where it is told
 pub record NamedAmong (n : ℕ) (name : List ℕ) (begin : ℕ) (l : List Item) (place : ℕ) (r : Record) : Type 0 where

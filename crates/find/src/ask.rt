@@ -47,7 +47,7 @@ pub fn ask(kind: u32, file: &[u8], name: &[u8]) -> AskAnswer
 }
 
 // The same by a table of byte classes and for ids of n digits.
-pub fn ask_by(t: &[u8; 256], n: usize, file: &[u8], name: &[u8]) -> Told
+pub(crate) fn ask_by(t: &[u8; 256], n: usize, file: &[u8], name: &[u8]) -> Told
     ensures { λ r. ⌜ r ≡ askOf (classesOf (now (t .entry))) n (now (file .entry)) (now (name .entry)) ⌝ }
 {
     if !name::is_valid_by(t, name) {
@@ -61,7 +61,7 @@ pub fn ask_by(t: &[u8; 256], n: usize, file: &[u8], name: &[u8]) -> Told
 
 // The check from a place on, in one pass, in which a record of the name ends all. At the first fault only the name is looked for
 // from there on.
-pub fn ask_body(t: &[u8; 256], n: usize, file: &[u8], body: usize, name: &[u8]) -> Told
+pub(crate) fn ask_body(t: &[u8; 256], n: usize, file: &[u8], body: usize, name: &[u8]) -> Told
     ensures { λ r. ⌜ r ≡ askBody (classesOf (now (t .entry))) n (now (file .entry)) body (now (name .entry)) ⌝ }
 {
     let mut place = body;
@@ -95,7 +95,7 @@ pub fn ask_body(t: &[u8; 256], n: usize, file: &[u8], body: usize, name: &[u8]) 
 }
 
 // The first record of a name from a place on, whatever stands between.
-pub fn first_named(t: &[u8; 256], n: usize, file: &[u8], from: usize, name: &[u8]) -> Sought
+pub(crate) fn first_named(t: &[u8; 256], n: usize, file: &[u8], from: usize, name: &[u8]) -> Sought
     ensures { λ r. ⌜ r ≡ soughtFrom (classesOf (now (t .entry))) n (now (file .entry)) from (now (name .entry)) ⌝ }
 {
     let mut place = from;

@@ -19,7 +19,7 @@ pub struct Probed {
 }
 
 // The search for any bytes in a body, with ids of n digits and a table of byte classes.
-pub fn search(t: &[u8; 256], n: usize, s: &[u8], wanted: &[u8]) -> Found
+pub(crate) fn search(t: &[u8; 256], n: usize, s: &[u8], wanted: &[u8]) -> Found
     ensures { λ r. ⌜ r ≡ searchOf (classesOf (now (t .entry))) n (now (s .entry)) (now (wanted .entry)) ⌝ }
 {
     let mut low = 0;
@@ -52,7 +52,7 @@ pub fn search(t: &[u8; 256], n: usize, s: &[u8], wanted: &[u8]) -> Found
 }
 
 // The name at the front of the bytes, by shape only, against the wanted one. A shape that fails counts as an empty name.
-pub fn probe(t: &[u8; 256], n: usize, s: &[u8], wanted: &[u8]) -> Probed
+pub(crate) fn probe(t: &[u8; 256], n: usize, s: &[u8], wanted: &[u8]) -> Probed
     ensures { λ r. ⌜ r ≡ probedOf (classesOf (now (t .entry))) n (now (s .entry)) (now (wanted .entry)) ⌝ }
 {
     match decode::shape::name_at_record_start(t, s, n) {

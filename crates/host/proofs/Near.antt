@@ -22,7 +22,6 @@ use Rattle.decode.specs.declared.reference.Reading.the-variants as reading
 use Rattle.decode.specs.Record.{recordOf}
 use Rattle.decode.proofs.Headers.{body-inside}
 use Rattle.decode.proofs.Records.{Fits, fits}
-use Rattle.iter.specs.declared.step.Step.{Step}
 use Rattle.iter.specs.declared.step.Step.the-variants as step
 use Rattle.iter.specs.declared.step.StepAnswer.the-variants as answer
 use Rattle.iter.specs.Items.{nameIn, Item}
@@ -30,7 +29,6 @@ use Rattle.iter.specs.Step.{more, stepBy, stepOf, stepAnswer}
 use Rattle.iter.proofs.Each.{each}
 use Rattle.find.specs.declared.search.Found.{Found}
 use Rattle.find.specs.declared.search.Found.the-variants.{Hit, Miss}
-use Rattle.find.specs.declared.lookup.Lookup.{Lookup}
 use Rattle.find.specs.declared.lookup.Lookup.the-variants as lookup
 use Rattle.find.specs.declared.lookup.LookupAnswer.the-variants as found
 use Rattle.find.specs.declared.ask.Told.the-variants as told
@@ -67,9 +65,9 @@ near n s place r small x = (omega (arith, x .0), go (f .object))
     go (inr z) = omega (arith, z .1, f .inside, length-drop place s)
 
 -- an answer other than the two refusals comes of the digits
-through : {A : Type 0} (kind size other : ℕ) (f : ℕ → A) (unknown large which : A) → admit (admission kind size other) f unknown large ≡ which
+through : {A : Type 0} (kind size other : ℕ) (f : ℕ → A) {unknown large which : A} → admit (admission kind size other) f unknown large ≡ which
     → (unknown ≡ which → ⊥) → (large ≡ which → ⊥) → (n : ℕ) × (size ≤ 1073741824) × (f n ≡ which)
-through kind size other f unknown large which e no-unknown no-large = go (admission kind size other) refl e
+through kind size other f {unknown} {large} {which} e no-unknown no-large = go (admission kind size other) refl e
   where
     go : (a : Admission) → admission kind size other ≡ a → admit a f unknown large ≡ which → (n : ℕ) × (size ≤ 1073741824) × (f n ≡ which)
     go (admission.Digits n) q h = (n, admitted kind size other n q .1, h)
@@ -96,10 +94,11 @@ module _ (n : ℕ) (prefix s : List ℕ) (place item : ℕ) {r : Record} {next i
       go true q h = (omega (arith, ltb-true place (length s) q), step-by (recordOf paper n (drop place s)) h)
       go false q h = absurd (let z : _≡_ {A = ℕ} 0 1 = cc in omega arith)
 
-pub step-near : (kind : ℕ) (prefix s : List ℕ) (place item : ℕ) {r : Record} {next item′ : ℕ} → stepAnswer kind prefix s place item ≡ answer.Done (step.Good r next item′) → Near place r
+pub step-near : (kind : ℕ) (prefix s : List ℕ) (place item : ℕ) {r : Record} {next item′ : ℕ}
+    → stepAnswer kind prefix s place item ≡ answer.Done (step.Good r next item′) → Near place r
 unfolding stepAnswer
 step-near kind prefix s place item {r} {next} {item′} e =
-    let (n, small, h) = through kind (length s) (length prefix) (λ n. answer.Done (stepOf paper n prefix s place item)) answer.UnknownKind answer.TooLarge (answer.Done (step.Good r next item′)) e
+    let (n, small, h) = through kind (length s) (length prefix) (λ n. answer.Done (stepOf paper n prefix s place item)) e
     (λ q. let z : _≡_ {A = ℕ} 0 1 = cc in omega arith) (λ q. let z : _≡_ {A = ℕ} 0 1 = cc in omega arith) in
     near n s place r small (step-read n prefix s place item {r = r} {next = next} {item′ = item′} cc)
 
@@ -128,19 +127,21 @@ module _ (n : ℕ) (s name : List ℕ) {place : ℕ} {r : Record} where
       go true h = lookup-by (searchOf paper n s name) (search-inside paper n s name refl) h
       go false h = absurd (let z : _≡_ {A = ℕ} 0 1 = cc in omega arith)
 
-pub lookup-near : (kind : ℕ) (s name : List ℕ) {place : ℕ} {r : Record} → lookupAnswer kind s name ≡ found.Done (lookup.Charted place r) → Near place r
+pub lookup-near : (kind : ℕ) (s name : List ℕ) {place : ℕ} {r : Record}
+    → lookupAnswer kind s name ≡ found.Done (lookup.Charted place r) → Near place r
 unfolding lookupAnswer
 lookup-near kind s name {place} {r} e =
-    let (n, small, h) = through kind (length s) (length name) (λ n. found.Done (lookupOf paper n s name)) found.UnknownKind found.TooLarge (found.Done (lookup.Charted place r)) e
+    let (n, small, h) = through kind (length s) (length name) (λ n. found.Done (lookupOf paper n s name)) e
     (λ q. let z : _≡_ {A = ℕ} 0 1 = cc in omega arith) (λ q. let z : _≡_ {A = ℕ} 0 1 = cc in omega arith) in
     near n s place r small (lookup-read n s name {place = place} {r = r} cc)
 
 -- ---- the lookup that can be trusted
 
-pub ask-near : (kind : ℕ) (file name : List ℕ) {place : ℕ} {r : Record} → askAnswer kind file name ≡ asked.Done (told.Charted place r) → Near place r
+pub ask-near : (kind : ℕ) (file name : List ℕ) {place : ℕ} {r : Record}
+    → askAnswer kind file name ≡ asked.Done (told.Charted place r) → Near place r
 unfolding askAnswer
 ask-near kind file name {place} {r} e =
-    let (n, small, h) = through kind (length file) (length name) (λ n. asked.Done (askOf paper n file name)) asked.UnknownKind asked.TooLarge (asked.Done (told.Charted place r)) e
+    let (n, small, h) = through kind (length file) (length name) (λ n. asked.Done (askOf paper n file name)) e
     (λ q. let z : _≡_ {A = ℕ} 0 1 = cc in omega arith) (λ q. let z : _≡_ {A = ℕ} 0 1 = cc in omega arith) in
     let (h, inner, opened, here, x) = trusted n file name .charted place r cc in
     let body = drop (h .body) file in

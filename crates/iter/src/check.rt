@@ -38,7 +38,7 @@ pub fn check(kind: u32, file: &[u8]) -> CheckAnswer
 }
 
 // The same by a table of byte classes and for ids of n digits.
-pub fn check_by(t: &[u8; 256], n: usize, file: &[u8]) -> Verdict
+pub(crate) fn check_by(t: &[u8; 256], n: usize, file: &[u8]) -> Verdict
     ensures { λ r. ⌜ r ≡ checkOf (classesOf (now (t .entry))) n (now (file .entry)) ⌝ }
 {
     match decode::header::open(t, file) {
@@ -48,7 +48,7 @@ pub fn check_by(t: &[u8; 256], n: usize, file: &[u8]) -> Verdict
 }
 
 // The check from a place on, in one pass: only the name before is looked at again.
-pub fn check_body(t: &[u8; 256], n: usize, file: &[u8], body: usize) -> Verdict
+pub(crate) fn check_body(t: &[u8; 256], n: usize, file: &[u8], body: usize) -> Verdict
     ensures { λ r. ⌜ r ≡ judgeBody (classesOf (now (t .entry))) n (now (file .entry)) body ⌝ }
 {
     let mut place = body;

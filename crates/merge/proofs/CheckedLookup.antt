@@ -8,25 +8,22 @@ use native.Mathlib.Omega.{arith}
 use lib.ListN.{length, drop}
 use Rattle.parse.specs.Choice.{if}
 use Rattle.parse.specs.Class.{paper}
+use Rattle.parse.proofs.Orders.{order-refl}
 use Rattle.name.specs.Name.{validName}
 use Rattle.decode.specs.declared.header.Header.{Header}
 use Rattle.decode.specs.declared.header.Opened.the-variants as opened
-use Rattle.decode.specs.declared.reference.Record.{Record}
-use Rattle.decode.specs.declared.reference.Reading.{Reading}
-use Rattle.decode.specs.declared.reference.Reading.the-variants.{Good, Bad}
 use Rattle.decode.specs.Header.{headerOf}
 use Rattle.iter.specs.declared.check.Verdict.the-variants.{Clean}
 use Rattle.iter.specs.Items.{Item, items, bytesOf, nameOf}
 use Rattle.iter.specs.Check.{checkOf}
-use Rattle.iter.specs.Passes.{isGood, Passes}
+use Rattle.iter.specs.Passes.{Passes}
 use Rattle.iter.specs.Stands.{Stands}
 use Rattle.iter.proofs.CheckMeans.{check-means}
 use Rattle.iter.proofs.Each.{each}
 use Rattle.find.specs.Present.{FoundExactly}
-use Rattle.find.proofs.Found.{found-exactly}
+use Rattle.find.proofs.Found.{good-record, found-exactly}
 use Rattle.find.proofs.ItemAt.{stands-good}
 use Rattle.sort.specs.Order.{same}
-use Rattle.sort.proofs.Strings.{order-self}
 use Rattle.merge.specs.Entry.{Entry, entryOf, entriesOf}
 use Rattle.merge.specs.Theorems.{entryNamed, Shows, Tells}
 use Rattle.merge.proofs.Overriding.{same-is}
@@ -57,7 +54,7 @@ module _ (n : ℕ) (name : List ℕ) where
   none-named : (before : List Item) (it : Item) (after : List Item) → entryNamed name (entriesOf n (before ++ it ∷ after)) ≡ none
       → nameOf n it ≡ name → ⊥
   none-named [] it after h e =
-      let f = rw (e, order-self name) at h in
+      let f = rw (e, order-refl name) at h in
       let z : _≡_ {A = ℕ} 0 1 = cc in
       omega arith
   none-named (b ∷ before) it after h e = go (same (nameOf n b) name) h (none-named before it after)
@@ -68,10 +65,6 @@ module _ (n : ℕ) (name : List ℕ) where
       go false z ih = ih z e
 
 -- ---- in a body that passes the check
-
-good-record : (w : Reading) → isGood w ≡ true → (r : Record) × (w ≡ Good r)
-good-record (Good r) h = (r, refl)
-good-record (Bad f) h = absurd (let z : _≡_ {A = ℕ} 0 1 = cc in omega arith)
 
 module _
     (n : ℕ)

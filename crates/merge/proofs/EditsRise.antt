@@ -20,9 +20,9 @@ use Rattle.sort.specs.declared.twin.Twin.{Twin}
 use Rattle.sort.specs.declared.twin.Twin.the-variants.{At, Nothing}
 use Rattle.sort.specs.Name.{nameOf, editName}
 use Rattle.sort.specs.Order.{comesFirst}
-use Rattle.sort.specs.Sorted.{insert, sorted}
 use Rattle.sort.specs.Twin.{firstTwin}
 use Rattle.sort.proofs.Pairs.{Each, each-map, Pairs, pairs-by}
+use Rattle.sort.proofs.Sorting.{each-sorted}
 use Rattle.sort.proofs.Theorems.{no-twin-names-rise}
 use Rattle.edit.specs.declared.list.Prepared.the-variants.{Ready, ShortIndex, TooLarge}
 use Rattle.edit.specs.List.{Listed, all, malformed, badName, tooMany, editsOf, placesOf, inOrder, twinsBy, twinsOf, preparedBy, preparedOf}
@@ -31,22 +31,6 @@ use Rattle.merge.specs.Entry.{editsAt}
 use Rattle.merge.specs.Runs.{Above, Rising}
 use Rattle.merge.proofs.EditsSound.{IsEdit, places-edits, edit-name-valid, edit-puts}
 use Rattle.merge.proofs.Entries.{Rises}
-
--- ---- what holds of each place holds of each place in order
-
-module _ (P : ℕ → Type 0) (lt : ℕ → ℕ → Bool) where
-  each-insert : (p : ℕ) (l : List ℕ) → P p → Each P l → Each P (insert lt p l)
-  each-insert p [] h e = (h, tt)
-  each-insert p (q ∷ l) h e = go (each-insert p l h (e .1)) (lt q p)
-    where
-      go : Each P (insert lt p l) → (t : Bool) → Each P (if t (q ∷ insert lt p l) (p ∷ q ∷ l))
-      go rest true = (e .0, rest)
-      go rest false = (h, e)
-
-  each-sorted : (l : List ℕ) → Each P l → Each P (sorted lt l)
-  unfolding sorted
-  each-sorted [] e = tt
-  each-sorted (p ∷ l) e = each-insert p (sorted lt l) (e .0) (each-sorted l (e .1))
 
 -- ---- names that rise
 
@@ -73,7 +57,7 @@ above-none (b ∷ name) v = refl
 
 module _ (n : ℕ) (list places : List ℕ) (listed : editsOf paper n list ≡ all places) where
   pub in-order-edits : Each (IsEdit paper n list) (inOrder list places)
-  in-order-edits = each-sorted (IsEdit paper n list) (comesFirst Edit list) places (places-edits paper n list places listed .0)
+  in-order-edits = each-sorted (comesFirst Edit list) (IsEdit paper n list) places (places-edits paper n list places listed .0)
 
   module _ (half : ℕ) (even : n ≡ 2 * half) (bytes : (i : ℕ) → getD list i 0 < 256) where
     rises : (last l : List ℕ) → Each (IsEdit paper n list) l → Above list last l → Rising list l → Rises n last (editsAt n list l)

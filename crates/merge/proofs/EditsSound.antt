@@ -22,7 +22,7 @@ use Rattle.edit.specs.List.{Listed, all, malformed, badName, tooMany, onto, lis
 use Rattle.put.specs.Text.{hexText}
 use Rattle.put.proofs.Laws.{length-hex, hex-is-hex}
 use Rattle.merge.specs.Entry.{newOf, editAt}
-use Rattle.merge.proofs.EditParts.{length-there, name-there, behind-there, Whole, good-whole}
+use Rattle.edit.proofs.Parts.{length-there, name-there, behind-there, Whole, good-whole}
 use Rattle.merge.proofs.Entries.{Digits, AllOf}
 
 -- ---- a list that has no fault: at each place a good edit stands, and there are no more of them than turns

@@ -15,7 +15,7 @@ use Rattle.sort.specs.Name.{editName}
 use Rattle.sort.specs.Order.{before}
 use Rattle.sort.specs.Sorted.{sorted}
 use Rattle.sort.specs.Twin.{firstTwin}
-use Rattle.edit.specs.Change.{lengthAt, changeOf, behindName}
+use Rattle.edit.specs.Change.{lengthAt, changeOf, namedChange, behindName}
 use Rattle.edit.specs.List.{editsFrom, editsOf, twinsOf, preparedOf, indexAfter}
 use Rattle.put.specs.Text.{hexDigit}
 use Rattle.merge.specs.Merge.{newFile, finished, oldEntries, judged, editsInOrder, mergeOf, mergeAnswer, outputAfter, indexAnswer}
@@ -27,7 +27,7 @@ as-long-as-said = refl
 pub every-case : allComputed cases ≡ cases
 unfolding isHex isForbidden isLineEnd byteAt idAt eol newlineAt textAt noted firstLine headerOf recordOf sizeOf itemsBehind items judgeBody checkOf
     noComponentBeginsWithDot noLockAtTheEnd hasSlash noDotDot noForbiddenByte slashesApart noDotAtTheEnd noAtBrace notTheLoneAt validName
-    digitsOf overLimit admission lengthAt changeOf behindName editName before sorted firstTwin editsFrom editsOf twinsOf preparedOf indexAfter
+    digitsOf overLimit admission lengthAt changeOf namedChange behindName editName before sorted firstTwin editsFrom editsOf twinsOf preparedOf indexAfter
     hexDigit newFile finished oldEntries judged editsInOrder mergeOf mergeAnswer outputAfter indexAnswer
 every-case = refl
 

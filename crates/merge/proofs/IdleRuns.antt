@@ -12,6 +12,7 @@ use Rattle.parse.specs.declared.order.Order.{Order}
 use Rattle.parse.specs.declared.order.Order.the-variants.{Less, Equal, Greater}
 use Rattle.parse.specs.Class.{paper}
 use Rattle.parse.specs.Order.{orderOf}
+use Rattle.parse.proofs.Orders.{greater-flip, less-trans}
 use Rattle.decode.specs.declared.reference.Reading.{Reading}
 use Rattle.decode.specs.declared.reference.Reading.the-variants.{Good, Bad}
 use Rattle.iter.specs.declared.check.Verdict.the-variants.{Clean}
@@ -20,7 +21,6 @@ use Rattle.iter.specs.Check.{judgeBody}
 use Rattle.iter.specs.Passes.{ascending}
 use Rattle.iter.proofs.Passes.{judged}
 use Rattle.sort.specs.Name.{editName}
-use Rattle.find.proofs.Names.{greater-flip, less-trans}
 use Rattle.edit.specs.Change.{behindName}
 use Rattle.put.specs.Put.{over}
 use Rattle.put.proofs.Laws.{over-fits}

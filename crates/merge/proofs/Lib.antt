@@ -1,7 +1,6 @@
 pub mod Admitted
 pub mod Answers
 pub mod CheckedLookup
-pub mod EditParts
 pub mod EditsRise
 pub mod EditsSound
 pub mod Entries

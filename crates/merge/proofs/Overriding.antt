@@ -8,8 +8,8 @@ use Rattle.parse.specs.declared.order.Order.{Order}
 use Rattle.parse.specs.declared.order.Order.the-variants.{Less, Equal, Greater}
 use Rattle.parse.specs.Choice.{if}
 use Rattle.parse.specs.Order.{orderOf}
+use Rattle.parse.proofs.Orders.{order-equal, less-flip, greater-flip, less-trans}
 use Rattle.sort.specs.Order.{isEqual, same}
-use Rattle.find.proofs.Names.{order-equal, less-flip, greater-flip, less-trans}
 use Rattle.merge.specs.Entry.{Entry, Edit}
 use Rattle.merge.specs.Merge.{byOrder, overridden}
 use Rattle.merge.specs.Theorems.{entryNamed, leftBy, afterEdits}

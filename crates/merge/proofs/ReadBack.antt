@@ -11,10 +11,9 @@ use lib.Seq.{take-at, take-append-seam}
 use Rattle.parse.specs.Class.{paper}
 use Rattle.name.specs.Name.{validName}
 use Rattle.decode.specs.declared.reference.Record.{Record}
-use Rattle.decode.specs.declared.reference.Reading.{Reading}
 use Rattle.decode.specs.declared.reference.Reading.the-variants.{Good}
 use Rattle.decode.specs.Record.{recordOf}
-use Rattle.decode.proofs.Records.{headLen, peelLen, Peel, plain-is, peeled-is}
+use Rattle.decode.proofs.Records.{good-alike, headLen, peelLen, Peel, plain-is, peeled-is}
 use Rattle.iter.specs.Items.{Item, nameOf}
 use Rattle.merge.specs.Entry.{Entry, recordLine, objectLine, objectLines, linesOf, objectAt, entryOf}
 use Rattle.merge.proofs.Entries.{Digits, DigitsIf, Sound}
@@ -36,10 +35,6 @@ readingOf e =
 
 abbrev pub written : Entry → Item
 written e = record { what = Good (readingOf e); bytes = linesOf e }
-
-good-alike : {a a′ o o′ z z′ : ℕ} → a ≡ a′ → o ≡ o′ → z ≡ z′
-    → _≡_ {A = Reading} (Good (record { name = a; object = o; size = z })) (Good (record { name = a′; object = o′; size = z′ }))
-good-alike p q r = λ i. Good (record { name = p i; object = q i; size = r i })
 
 -- a first line, and any bytes behind it
 laid : (id name t : List ℕ) → recordLine id name ++ t ≡ lineThen id name t

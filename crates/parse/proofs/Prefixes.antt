@@ -1,6 +1,6 @@
 -- Beginning with other bytes, from a place on; being the same bytes.
-use mathlib.Core.Path.{_≡_, refl, sym, ap, _∙_}
-use mathlib.Core.Bool.{Bool, true, false, _&&_, and-false}
+use mathlib.Core.Path.{_≡_, refl, ap}
+use mathlib.Core.Bool.{true, false, and-false, and-eq-true-iff}
 use mathlib.Core.List.{List, [], _∷_}
 use Prim.Native.Nat.{ℕ, suc, _+_, _≤_, _<_}
 use native.Mathlib.Numerals.{add-one}
@@ -8,7 +8,7 @@ use native.Mathlib.Omega.{arith}
 use lib.Dec.{eqb}
 use lib.ListN.{length, getD, drop, drop-of-length-le}
 use lib.Seq.{drop-cons}
-use borrow.Author.Tests.{eq-eqb, ne-eqb}
+use borrow.Author.Tests.{eqb-true, eq-eqb, ne-eqb}
 use Rattle.parse.specs.Prefix.{begins, same}
 
 -- the longer cannot be the front of the shorter
@@ -40,3 +40,16 @@ other-length [] [] h = absurd (h refl)
 other-length [] (b ∷ s) h = refl
 other-length (a ∷ w) [] h = refl
 other-length (a ∷ w) (b ∷ s) h = rw (other-length w s (λ e. h (ap suc e)), and-false)
+
+-- and it is being equal
+pub same-is : (w s : List ℕ) → same w s ≡ true → s ≡ w
+same-is [] [] h = refl
+same-is [] (b ∷ s) h = cc
+same-is (a ∷ w) [] h = cc
+same-is (a ∷ w) (b ∷ s) h =
+    let (first, rest) = and-eq-true-iff (eqb b a) (same w s) .0 h in
+    cc (eqb-true b a first, same-is w s rest)
+
+pub same-self : (w : List ℕ) → same w w ≡ true
+same-self [] = refl
+same-self (a ∷ w) = rw (eq-eqb a a refl) (same-self w)

@@ -35,7 +35,7 @@ pub fn newline(s: &[u8], at: usize) -> Past
 }
 
 // The place of the first CR or LF from a place on, or the end; the place itself where that is beyond the end.
-pub fn text_end(t: &[u8; 256], s: &[u8], at: usize) -> usize
+pub(crate) fn text_end(t: &[u8; 256], s: &[u8], at: usize) -> usize
     ensures { λ r. ⌜ r ≡ at + textLen (classesOf (now (t .entry))) (drop at (now (s .entry))) ⌝ }
 {
     let mut i = at;

@@ -9,9 +9,9 @@ use borrow.Author.Tests.{ltb-true, ltb-false, lt-ltb, le-ltb}
 use Rattle.parse.specs.Order.{orderOf, isLess}
 use Rattle.parse.specs.declared.order.Order.{Order}
 use Rattle.parse.specs.declared.order.Order.the-variants.{Less, Equal, Greater}
+use Rattle.parse.proofs.Orders.{order-refl, order-equal, turned, order-turned, less-trans}
 use Rattle.sort.specs.Order.{isEqual, before}
 use Rattle.sort.specs.Laws.{StrictOrder}
-use Rattle.sort.proofs.Strings.{order-self, order-equal, turned, order-turned, order-trans}
 
 module _ (name : ℕ → List ℕ) where
   -- what the order of the names says
@@ -26,7 +26,7 @@ module _ (name : ℕ → List ℕ) where
 
   is-first : (p q : ℕ) → First p q → before name p q ≡ true
   is-first p q (by-name e) = before-by p q Less e
-  is-first p q (by-place e h) = before-by p q Equal (ap (orderOf (name p)) (sym e) ∙ order-self (name p)) ∙ lt-ltb p q h
+  is-first p q (by-place e h) = before-by p q Equal (ap (orderOf (name p)) (sym e) ∙ order-refl (name p)) ∙ lt-ltb p q h
 
   first : (p q : ℕ) → before name p q ≡ true → First p q
   first p q h = go (orderOf (name p) (name q)) refl
@@ -37,7 +37,7 @@ module _ (name : ℕ → List ℕ) where
       go Greater e = absurd (true≢false (sym h ∙ before-by p q Greater e))
 
   first-trans : (p q r : ℕ) → First p q → First q r → First p r
-  first-trans p q r (by-name e) (by-name f) = by-name (order-trans (name p) (name q) (name r) e f)
+  first-trans p q r (by-name e) (by-name f) = by-name (less-trans (name p) (name q) (name r) e f)
   first-trans p q r (by-name e) (by-place f k) = by-name (ap (orderOf (name p)) (sym f) ∙ e)
   first-trans p q r (by-place e h) (by-name f) = by-name (ap (λ (a : List ℕ). orderOf a (name r)) e ∙ f)
   first-trans p q r (by-place e h) (by-place f k) = by-place (e ∙ f) (omega arith)
@@ -55,7 +55,7 @@ module _ (name : ℕ → List ℕ) where
   pub places-ordered : StrictOrder (before name)
   places-ordered =
       record {
-        irreflexive = λ p. before-by p p Equal (order-self (name p)) ∙ le-ltb p p (omega arith);
+        irreflexive = λ p. before-by p p Equal (order-refl (name p)) ∙ le-ltb p p (omega arith);
         transitive = λ p q r h k. is-first p r (first-trans p q r (first p q h) (first q r k));
         total = same-place;
       }

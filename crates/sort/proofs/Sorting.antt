@@ -2,9 +2,10 @@
 use mathlib.Core.Path.{_≡_, refl, sym, ap, _∙_, subst}
 use mathlib.Core.Bool.{Bool, true, false}
 use mathlib.Core.List.{List, [], _∷_}
-use Prim.Native.Nat.{ℕ, _+_, _<_}
+use Prim.Native.Nat.{ℕ, suc, _+_, _<_}
 use native.Mathlib.Omega.{arith}
 use lib.Dec.{eqb}
+use lib.ListN.{length}
 use borrow.Author.Tests.{eq-eqb, eqb-true}
 use Rattle.parse.specs.Choice.{if}
 use Rattle.parse.specs.Class.{bit}
@@ -13,9 +14,9 @@ use Rattle.sort.specs.Laws.{StrictOrder, count, Permutation, InOrder}
 use Rattle.sort.proofs.Orders.{NotAfter, not-back, not-before-trans}
 use Rattle.sort.proofs.Pairs.{Each, each-map, Pairs, pairs-at, pairs-by}
 
-module _ {lt : ℕ → ℕ → Bool} (o : StrictOrder lt) where
-  -- ---- `sorted` is in order
+-- ---- what holds of each entry holds of each in order, and there are as many
 
+module _ (lt : ℕ → ℕ → Bool) where
   each-insert : (P : ℕ → Type 0) (x : ℕ) (l : List ℕ) → P x → Each P l → Each P (insert lt x l)
   each-insert P x [] h e = (h, tt)
   each-insert P x (y ∷ l) h e = go (each-insert P x l h (e .1)) (lt y x)
@@ -24,12 +25,33 @@ module _ {lt : ℕ → ℕ → Bool} (o : StrictOrder lt) where
       go rest true = (e .0, rest)
       go rest false = (h, e)
 
+  pub each-sorted : (P : ℕ → Type 0) (l : List ℕ) → Each P l → Each P (sorted lt l)
+  unfolding sorted
+  each-sorted P [] e = tt
+  each-sorted P (x ∷ l) e = each-insert P x (sorted lt l) (e .0) (each-sorted P l (e .1))
+
+  length-insert : (x : ℕ) (l : List ℕ) → length (insert lt x l) ≡ suc (length l)
+  length-insert x [] = refl
+  length-insert x (y ∷ l) = go (lt y x) (length-insert x l)
+    where
+      go : (t : Bool) → length (insert lt x l) ≡ suc (length l) → length (if t (y ∷ insert lt x l) (x ∷ y ∷ l)) ≡ suc (suc (length l))
+      go true e = ap suc e
+      go false e = refl
+
+  pub length-sorted : (l : List ℕ) → length (sorted lt l) ≡ length l
+  unfolding sorted
+  length-sorted [] = refl
+  length-sorted (x ∷ l) = length-insert x (sorted lt l) ∙ ap suc (length-sorted l)
+
+module _ {lt : ℕ → ℕ → Bool} (o : StrictOrder lt) where
+  -- ---- `sorted` is in order
+
   pairs-insert : (x : ℕ) (l : List ℕ) → Pairs (NotAfter lt) l → Pairs (NotAfter lt) (insert lt x l)
   pairs-insert x [] p = (tt, tt)
   pairs-insert x (y ∷ l) p = go (pairs-insert x l (p .1)) (lt y x) refl
     where
       go : Pairs (NotAfter lt) (insert lt x l) → (t : Bool) → lt y x ≡ t → Pairs (NotAfter lt) (if t (y ∷ insert lt x l) (x ∷ y ∷ l))
-      go rest true e = (each-insert (NotAfter lt y) x l (not-back o y x e) (p .0), rest)
+      go rest true e = (each-insert lt (NotAfter lt y) x l (not-back o y x e) (p .0), rest)
       go rest false e =
           ((e, each-map (NotAfter lt y) (NotAfter lt x) (λ z h. not-before-trans o z y x h e) l (p .0)), p)
 

@@ -14,9 +14,9 @@ use borrow.Author.Tests.{ltb-true, ltb-false}
 use Rattle.parse.specs.Class.{isLineEnd}
 use Rattle.parse.specs.Order.{orderOf}
 use Rattle.parse.specs.declared.order.Order.{Order}
+use Rattle.parse.proofs.Orders.{same-first}
 use Rattle.sort.specs.Name.{textOf}
 use Rattle.sort.specs.Letter.{letter, Alike}
-use Rattle.sort.proofs.Strings.{same-head}
 
 -- ---- a text from a place on
 
@@ -62,7 +62,7 @@ module _ (x y : List ℕ) where
       → orderFrom i ≡ orderFrom (i + 1)
   go-on i h k e l =
       rw (text-goes x i h l, text-goes y i k (ap isLineEnd (sym e) ∙ l))
-      (same-head (getD x i 0) (getD y i 0) (textOf (drop (i + 1) x)) (textOf (drop (i + 1) y)) e)
+      (same-first (getD x i 0) (textOf (drop (i + 1) x)) (getD y i 0) (textOf (drop (i + 1) y)) e)
 
   pub same-letter : (i : ℕ) → letter (textOf (drop i x)) ≡ letter (textOf (drop i y)) → (letter (textOf (drop i x)) ≡ 0 → ⊥)
       → orderFrom i ≡ orderFrom (i + 1)

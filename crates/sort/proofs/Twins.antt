@@ -10,6 +10,7 @@ use Rattle.parse.specs.Choice.{if}
 use Rattle.parse.specs.Order.{orderOf}
 use Rattle.parse.specs.declared.order.Order.{Order}
 use Rattle.parse.specs.declared.order.Order.the-variants.{Less, Equal, Greater}
+use Rattle.parse.proofs.Orders.{order-refl, order-equal, turned, order-turned, less-trans}
 use Rattle.sort.specs.declared.twin.Twin.the-variants.{At, Nothing}
 use Rattle.sort.specs.Order.{isEqual, same, before}
 use Rattle.sort.specs.Laws.{Ascending, NamesRise, AllDifferent, HasTwin}
@@ -17,7 +18,6 @@ use Rattle.sort.specs.Twin.{twinBehind, firstTwin}
 use Rattle.sort.proofs.Orders.{NotAfter}
 use Rattle.sort.proofs.Pairs.{each-map, Pairs, pairs-at, pairs-by}
 use Rattle.sort.proofs.Places.{before-by}
-use Rattle.sort.proofs.Strings.{order-self, order-equal, turned, order-turned, order-trans}
 
 module _ (name : ℕ → List ℕ) where
   -- ---- from a place on
@@ -79,7 +79,7 @@ module _ (name : ℕ → List ℕ) where
           → Pairs Rises (p ∷ q ∷ l)
       go rest Less e t =
           let r = rest t in
-          ((e, each-map (Rises q) (Rises p) (λ z f. order-trans (name p) (name q) (name z) e f) l (r .0)), r)
+          ((e, each-map (Rises q) (Rises p) (λ z f. less-trans (name p) (name q) (name z) e f) l (r .0)), r)
       go rest Equal e t = absurd (let z : _≡_ {A = ℕ} 0 1 = cc in omega arith)
       go rest Greater e t =
           absurd
@@ -96,6 +96,6 @@ module _ (name : ℕ → List ℕ) where
   pub all-different : (l : List ℕ) → Ascending (before name) l → firstTwin name l ≡ Nothing → AllDifferent name l
   all-different l s none i j h k e =
       let less = names-rise l s none i j h k in
-      let level = ap (orderOf (name (getD l i 0))) (sym e) ∙ order-self (name (getD l i 0)) in
+      let level = ap (orderOf (name (getD l i 0))) (sym e) ∙ order-refl (name (getD l i 0)) in
       let z : _≡_ {A = ℕ} 0 1 = cc in
       omega arith

@@ -17,7 +17,7 @@ pub enum Layout {
 }
 
 // Whether the place p comes before the place q: by their names, and by place where these are the same.
-pub fn comes_first(s: &[u8], layout: Layout, p: u32, q: u32) -> bool
+pub(crate) fn comes_first(s: &[u8], layout: Layout, p: u32, q: u32) -> bool
     ensures { λ r. ⌜ r ≡ comesFirst layout (now (s .entry)) p q ⌝ }
 {
     match compare(s, layout, p, q) {
@@ -28,7 +28,7 @@ pub fn comes_first(s: &[u8], layout: Layout, p: u32, q: u32) -> bool
 }
 
 // Whether the same name stands at two places.
-pub fn same_name(s: &[u8], layout: Layout, p: u32, q: u32) -> bool
+pub(crate) fn same_name(s: &[u8], layout: Layout, p: u32, q: u32) -> bool
     ensures { λ r. ⌜ r ≡ same (nameOf layout (now (s .entry)) p) (nameOf layout (now (s .entry)) q) ⌝ }
 {
     match compare(s, layout, p, q) {
@@ -39,7 +39,7 @@ pub fn same_name(s: &[u8], layout: Layout, p: u32, q: u32) -> bool
 }
 
 // The order of the names at two places.
-pub fn compare(s: &[u8], layout: Layout, p: u32, q: u32) -> Order
+pub(crate) fn compare(s: &[u8], layout: Layout, p: u32, q: u32) -> Order
     ensures { λ r. ⌜ r ≡ orderOf (nameOf layout (now (s .entry)) p) (nameOf layout (now (s .entry)) q) ⌝ }
 {
     match layout {

@@ -11,7 +11,7 @@ ghost use Rattle.sort.specs.Letter.{letter, Alike};
 use parse::order::Order;
 
 // Sixteen bytes a step where both texts go on alike, then letter by letter.
-pub fn compare(x: &[u8], y: &[u8]) -> Order
+pub(crate) fn compare(x: &[u8], y: &[u8]) -> Order
     ensures { λ r. ⌜ r ≡ orderOf (textOf (now (x .entry))) (textOf (now (y .entry))) ⌝ }
 {
     let mut i = 0;

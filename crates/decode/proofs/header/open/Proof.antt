@@ -2,15 +2,32 @@
 use mathlib.Core.Path.{_≡_, sym, ap, _∙_}
 use native.Mathlib.Omega.{arith}
 use borrow.Author.Tests.{not-true, not-false}
-use Prim.Native.Nat.{_-_}
+use mathlib.Core.Bool.{true}
+use mathlib.Core.List.{List}
+use Prim.Native.Nat.{ℕ, _-_}
 use lib.ListN.{getD, take, drop, List·getD-eq-default}
-use Rattle.parse.specs.Class.{classesOf}
+use Rattle.parse.specs.Class.{Classes, classesOf}
+use Rattle.parse.specs.Prefix.{begins}
 use Rattle.decode.specs.declared.header.Opened.the-variants.{Header, Unreadable}
-use Rattle.decode.specs.Header.{tokens, allNoted, plainHeader}
+use Rattle.decode.specs.Header.{mark, tokens, allNoted}
 use Rattle.decode.proofs.Headers.{no-hash, no-mark, no-end, header-read}
 use borrow.Author.Needs.{needs}
 use Rattle.decode.proofs.header.open.Statement.{statement}
 use Rattle.decode.proofs.header.open.Tie as tie
+
+-- the file begins with the mark of a header
+module _ (m : tie.Else3) where
+  abbrev hashed : tie.Else2
+  hashed = m .before .before .before
+
+  abbrev byte : Classes
+  byte = classesOf (hashed .before .before .before .before .args .t .now)
+
+  abbrev file : List ℕ
+  file = hashed .before .before .before .before .args .file .now
+
+  marked : begins mark file ≡ true
+  marked = sym (m .before .begins-with .ensures) ∙ not-false _ (m .if3 .left)
 
 plain-requires : tie.Need-plain-requires
 plain-requires c κs = search needs
@@ -64,12 +81,9 @@ first-line-requires-2 c κs = search needs
 returns-4 : tie.Need-returns-4
 returns-4 c =
     let u = c .before .before .before in
-    let b = u .before .before in
-    let hash = b .before .before in
-    let a = hash .before .before .before .before .args in
-    let marked = sym (b .begins-with .ensures) ∙ not-false _ (u .before .if3 .left) in
+    let m = u .before in
     ap Unreadable (c .first-line2 .ensures)
-    ∙ sym (no-end (classesOf (a .t .now)) (a .file .now) (hash .if2 .left) marked (sym (u .until-line-end .ensures) ∙ c .before .enum-told .given .1))
+    ∙ sym (no-end (byte m) (file m) (hashed m .if2 .left) (marked m) (sym (u .until-line-end .ensures) ∙ c .before .enum-told .given .1))
 
 between-requires : tie.Need-between-requires
 between-requires c κs = search needs
@@ -82,17 +96,14 @@ note-tokens-requires c κs = search needs
 
 returns-5 : tie.Need-returns-5
 returns-5 c =
-    let k = c .before .before .before in
-    let u = k .before .before .before in
-    let b = u .before .before in
-    let hash = b .before .before in
-    let a = hash .before .before .before .before .args in
-    let marked = sym (b .begins-with .ensures) ∙ not-false _ (u .before .if3 .left) in
+    let e = c .before .before .before .before in
+    let u = e .before .before in
+    let m = u .before in
     ap Header
     (c .note-tokens .ensures
     ∙ ap (λ w. allNoted (tokens w) (c .before .plain3 .result)) (c .before .before .between .ensures)
-    ∙ ap (allNoted (tokens (take (k .before .end .given .0 .0 - 18) (drop 18 (a .file .now))))) (c .before .plain3 .ensures))
-    ∙ sym (header-read (classesOf (a .t .now)) (a .file .now) (hash .if2 .left) marked (sym (u .until-line-end .ensures) ∙ k .before .end .given .1))
+    ∙ ap (allNoted (tokens (take (e .end .given .0 .0 - 18) (drop 18 (file m))))) (c .before .plain3 .ensures))
+    ∙ sym (header-read (byte m) (file m) (hashed m .if2 .left) (marked m) (sym (u .until-line-end .ensures) ∙ e .end .given .1))
 
 pub open-spec : {M : Type 1} → statement M
 open-spec =

@@ -1,10 +1,30 @@
 -- `decode::header::read_header` meets its contract: the table's classes are the paper's.
 use mathlib.Core.Path.{_≡_, sym, _∙_}
+use mathlib.Core.Bool.{false}
+use mathlib.Core.List.{List}
+use Prim.Native.Nat.{ℕ}
+use lib.ListN.{length}
+use Rattle.parse.specs.Class.{paper}
+use Rattle.parse.specs.Limit.{overLimit}
 use Rattle.parse.proofs.Classes.{by-paper}
 use Rattle.decode.specs.Header.{headerOf, headerAnswer}
 use borrow.Author.Needs.{needs}
 use Rattle.decode.proofs.header.read_header.Statement.{statement}
 use Rattle.decode.proofs.header.read_header.Tie as tie
+
+-- the file is not too large, and its header is read
+module _ (o : tie.After-open) where
+  abbrev unlimited : tie.Else1
+  unlimited = o .before .before .before
+
+  abbrev file : List ℕ
+  file = unlimited .before .before .before .args .file .now
+
+  within : overLimit (length file) ≡ false
+  within = sym (unlimited .before .over-limit .ensures) ∙ unlimited .if1 .left
+
+  is-opened : headerOf paper file ≡ o .open .result
+  is-opened = sym (by-paper (λ byte. headerOf byte file) (o .before .before .table .ensures)) ∙ sym (o .open .ensures)
 
 over-limit-requires : tie.Need-over-limit-requires
 over-limit-requires c κs = search needs
@@ -27,23 +47,11 @@ enum-known-text c = search needs
 
 returns-2 : tie.Need-returns-2
 unfolding headerAnswer
-returns-2 c =
-    let o = c .before .before .before in
-    let t = o .before .before in
-    let f = t .before in
-    let file = f .before .before .before .args .file .now in
-    let e = sym (by-paper (λ byte. headerOf byte file) (t .table .ensures)) ∙ sym (o .open .ensures) ∙ c .before .h .given .1 in
-    rw (sym (f .before .over-limit .ensures) ∙ f .if1 .left, e)
+returns-2 c = let o = c .before .before .before in rw (within o, is-opened o, c .before .h .given .1)
 
 returns-3 : tie.Need-returns-3
 unfolding headerAnswer
-returns-3 c =
-    let o = c .before .before .before in
-    let t = o .before .before in
-    let f = t .before in
-    let file = f .before .before .before .args .file .now in
-    let e = sym (by-paper (λ byte. headerOf byte file) (t .table .ensures)) ∙ sym (o .open .ensures) ∙ c .before .text .given .1 in
-    rw (sym (f .before .over-limit .ensures) ∙ f .if1 .left, e)
+returns-3 c = let o = c .before .before .before in rw (within o, is-opened o, c .before .text .given .1)
 
 pub read-header-spec : {M : Type 1} → statement M
 read-header-spec =

@@ -1,11 +1,10 @@
 -- `edit::change::behind_name` meets its contract: behind a length that can't be read stands nothing.
-use mathlib.Core.Path.{_≡_, sym, _∙_}
+use mathlib.Core.Path.{sym, _∙_}
 use Prim.Native.Nat.{_+_}
 use native.Mathlib.Omega.{arith}
-use lib.ListN.{length}
 use Rattle.parse.proofs.Slices.{rest-is}
 use Rattle.edit.specs.Change.{behindName}
-use Rattle.edit.proofs.Changes.{length-small}
+use Rattle.edit.proofs.Parts.{length-small}
 use borrow.Author.Needs.{needs}
 use Rattle.edit.proofs.change.behind_name.Statement.{statement}
 use Rattle.edit.proofs.change.behind_name.Tie as tie

@@ -1,8 +1,8 @@
 -- `edit::change::length_at` meets its contract.
 use mathlib.Core.Path.{_≡_, sym, ap, _∙_}
-use Prim.Native.Nat.{ℕ, _+_, _*_, _%_, _≤_}
+use Prim.Native.Nat.{_+_, _*_, _%_, _≤_}
 use native.Mathlib.Omega.{arith}
-use lib.ListN.{getD, length, List·getD-eq-default}
+use lib.ListN.{getD, List·getD-eq-default}
 use Rattle.edit.specs.declared.change.Length.the-variants.{Of}
 use Rattle.edit.proofs.Changes.{no-group, one-group, second-zero, third-group, two-groups}
 use borrow.Author.Needs.{needs}

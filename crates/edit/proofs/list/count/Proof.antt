@@ -1,14 +1,18 @@
 -- `edit::list::count` meets its contract: the edits from the place reached on, counted after those before, decide the whole.
 use mathlib.Core.Path.{_≡_, refl, sym, ap, _∙_}
-use Prim.Native.Nat.{ℕ, suc, _+_, _-_, _≤_}
+use mathlib.Core.List.{List}
+use Prim.Native.Nat.{ℕ, suc, _+_, _-_, _≤_, _<_}
 use native.Mathlib.Omega.{arith}
-use lib.ListN.{length, drop, length-drop}
-use Rattle.parse.specs.Class.{classesOf}
+use lib.ListN.{length, drop}
+use Rattle.parse.specs.Class.{Classes, classesOf}
 use Rattle.parse.proofs.Slices.{rest-is}
+use Rattle.edit.specs.declared.change.Change.{Change}
+use Rattle.edit.specs.declared.change.Reading.the-variants.{Good}
 use Rattle.edit.specs.declared.list.Edits.the-variants.{Count}
 use Rattle.edit.specs.Change.{changeOf}
-use Rattle.edit.specs.List.{editsFrom, editsOf, told}
-use Rattle.edit.proofs.Lists.{change-fits, from-end, from-many, from-malformed, from-bad-name, from-good, told-onto}
+use Rattle.edit.specs.List.{Listed, editsFrom, editsOf, told}
+use Rattle.edit.proofs.Parts.{edit-goes-on}
+use Rattle.edit.proofs.Lists.{from-end, from-many, from-malformed, from-bad-name, from-good, told-onto}
 use borrow.Author.Needs.{needs}
 use Rattle.edit.proofs.list.count.Statement.{statement}
 use Rattle.edit.proofs.list.count.Tie as tie
@@ -19,6 +23,65 @@ Inv-loop t n list place₀ count₀ place count = (count ≤ 4096) × (told coun
 abbrev μ-loop : tie.MeasureT-loop
 μ-loop t n list place₀ count₀ place count = length list - place
 
+-- ---- what is known at each place of a turn
+
+module _ (l : tie.At-loop Inv-loop μ-loop) where
+  abbrev start : tie.Start Inv-loop μ-loop
+  start = l .before .before
+
+  abbrev byte : Classes
+  byte = classesOf (start .args .t .now)
+
+  abbrev n : ℕ
+  n = start .args .n
+
+  abbrev list : List ℕ
+  list = start .args .list .now
+
+  abbrev place : ℕ
+  place = l .loop .place
+
+  abbrev count : ℕ
+  count = l .loop .count
+
+  -- what the list is from the place on decides the whole
+  decides : {x : Listed} → editsFrom byte n list (4096 - count) place ≡ x → told count x ≡ told 0 (editsOf byte n list)
+  decides e = sym (ap (told count) e) ∙ l .loop .inv .1
+
+-- the edit at the place is read, and it is no edit too many
+module _ (k : tie.After-read Inv-loop μ-loop) where
+  abbrev turn : tie.At-loop Inv-loop μ-loop
+  turn = k .before .before .before .before
+
+  abbrev turns : ℕ
+  turns = 4096 - (count turn + 1)
+
+  inside : place turn < length (list turn)
+  inside = search needs
+
+  fewer : editsFrom (byte turn) (n turn) (list turn) (4096 - count turn) (place turn) ≡ editsFrom (byte turn) (n turn) (list turn) (suc turns) (place turn)
+  fewer = let z : 4096 - count turn ≡ suc turns = omega arith in ap (λ k. editsFrom (byte turn) (n turn) (list turn) k (place turn)) z
+
+  is-read : changeOf (byte turn) (n turn) (drop (place turn) (list turn)) ≡ k .read .result
+  is-read = ap (changeOf (byte turn) (n turn)) (sym (rest-is (list turn) (place turn))) ∙ sym (k .read .ensures)
+
+-- it is good
+module _ (g : tie.After-c Inv-loop μ-loop) where
+  abbrev its-read : tie.After-read Inv-loop μ-loop
+  its-read = g .before .before
+
+  abbrev its-turn : tie.At-loop Inv-loop μ-loop
+  its-turn = turn its-read
+
+  abbrev it : Change
+  it = g .c .given .0 .0
+
+  is-edit : changeOf (byte its-turn) (n its-turn) (drop (place its-turn) (list its-turn)) ≡ Good it
+  is-edit = is-read its-read ∙ g .c .given .1
+
+  goes-on : (place its-turn < place its-turn + it .size) × (place its-turn + it .size ≤ length (list its-turn))
+  goes-on = edit-goes-on (byte its-turn) (n its-turn) (list its-turn) (place its-turn) it is-edit
+
 loop-holds : tie.Need-loop-holds Inv-loop μ-loop
 unfolding editsOf
 loop-holds c = (search needs, refl)
@@ -26,11 +89,8 @@ loop-holds c = (search needs, refl)
 returns : tie.Need-returns Inv-loop μ-loop
 returns c =
     let l = c .before .before in
-    let a = l .before .before .args in
-    let byte = classesOf (a .t .now) in
-    let z : 4096 - l .loop .count ≡ 0 = omega arith in
-    let many = ap (λ k. editsFrom byte (a .n) (a .list .now) k (l .loop .place)) z ∙ from-many byte (a .n) (a .list .now) (l .loop .place) (search needs) in
-    sym (ap (told (l .loop .count)) many) ∙ l .loop .inv .1
+    let z : 4096 - count l ≡ 0 = omega arith in
+    decides l (ap (λ k. editsFrom (byte l) (n l) (list l) k (place l)) z ∙ from-many (byte l) (n l) (list l) (place l) (search needs))
 
 sub-rest : tie.Need-sub-rest Inv-loop μ-loop
 sub-rest c = search needs
@@ -48,45 +108,21 @@ enum-known-c : tie.Need-enum-known-c Inv-loop μ-loop
 enum-known-c c = search needs
 
 add-place : tie.Need-add-place Inv-loop μ-loop
-add-place c =
-    let g = c .before .before in
-    let k = g .before .before in
-    let e = k .before .before in
-    let l = e .before .before in
-    let a = l .before .before .args in
-    let byte = classesOf (a .t .now) in
-    let read = ap (changeOf byte (a .n)) (sym (rest-is (a .list .now) (l .loop .place))) ∙ sym (k .read .ensures) ∙ g .c .given .1 in
-    let fits = change-fits byte (a .n) (drop (l .loop .place) (a .list .now)) (g .c .given .0 .0) read in
-    omega (arith, fits .1, length-drop (l .loop .place) (a .list .now), l .before .before .good)
+add-place c = let g = c .before .before in omega (arith, goes-on g, start (its-turn g) .good)
 
 add-count : tie.Need-add-count Inv-loop μ-loop
 add-count c = search needs
 
 loop-less : tie.Need-loop-less Inv-loop μ-loop
-loop-less c =
-    let g = c .before .before in
-    let k = g .before .before in
-    let e = k .before .before in
-    let l = e .before .before in
-    let a = l .before .before .args in
-    let byte = classesOf (a .t .now) in
-    let read = ap (changeOf byte (a .n)) (sym (rest-is (a .list .now) (l .loop .place))) ∙ sym (k .read .ensures) ∙ g .c .given .1 in
-    let fits = change-fits byte (a .n) (drop (l .loop .place) (a .list .now)) (g .c .given .0 .0) read in
-    omega (arith, fits .0)
+loop-less c = omega (arith, goes-on (c .before .before))
 
 loop-again : tie.Need-loop-again Inv-loop μ-loop
 loop-again c =
     let g = c .before .before in
-    let k = g .before .before in
-    let e = k .before .before in
-    let l = e .before .before in
-    let a = l .before .before .args in
-    let byte = classesOf (a .t .now) in
-    let read = ap (changeOf byte (a .n)) (sym (rest-is (a .list .now) (l .loop .place))) ∙ sym (k .read .ensures) ∙ g .c .given .1 in
-    let z : 4096 - l .loop .count ≡ suc (4096 - (l .loop .count + 1)) = omega arith in
-    let fewer = ap (λ k. editsFrom byte (a .n) (a .list .now) k (l .loop .place)) z in
-    let on = told-onto (l .loop .count) (l .loop .place) (editsFrom byte (a .n) (a .list .now) (4096 - (l .loop .count + 1)) (l .loop .place + g .c .given .0 .0 .size)) in
-    (search needs, sym on ∙ sym (ap (told (l .loop .count)) (fewer ∙ from-good byte (a .n) (a .list .now) (l .loop .place) (search needs) (4096 - (l .loop .count + 1)) (g .c .given .0 .0) read)) ∙ l .loop .inv .1)
+    let k = its-read g in
+    let l = turn k in
+    let on = told-onto (count l) (place l) (editsFrom (byte l) (n l) (list l) (turns k) (place l + it g .size)) in
+    (search needs, sym on ∙ decides l (fewer k ∙ from-good (byte l) (n l) (list l) (place l) (inside k) (turns k) (it g) (is-edit g)))
 
 enum-told : tie.Need-enum-told Inv-loop μ-loop
 enum-told c = search needs
@@ -94,14 +130,8 @@ enum-told c = search needs
 returns-2 : tie.Need-returns-2 Inv-loop μ-loop
 returns-2 c =
     let k = c .before .before in
-    let e = k .before .before in
-    let l = e .before .before in
-    let a = l .before .before .args in
-    let byte = classesOf (a .t .now) in
-    let read = ap (changeOf byte (a .n)) (sym (rest-is (a .list .now) (l .loop .place))) ∙ sym (k .read .ensures) ∙ c .enum-told .given .1 in
-    let z : 4096 - l .loop .count ≡ suc (4096 - (l .loop .count + 1)) = omega arith in
-    let fewer = ap (λ k. editsFrom byte (a .n) (a .list .now) k (l .loop .place)) z in
-    sym (ap (told (l .loop .count)) (fewer ∙ from-malformed byte (a .n) (a .list .now) (l .loop .place) (search needs) (4096 - (l .loop .count + 1)) read)) ∙ l .loop .inv .1
+    let l = turn k in
+    decides l (fewer k ∙ from-malformed (byte l) (n l) (list l) (place l) (inside k) (turns k) (is-read k ∙ c .enum-told .given .1))
 
 enum-told-2 : tie.Need-enum-told-2 Inv-loop μ-loop
 enum-told-2 c = search needs
@@ -109,21 +139,14 @@ enum-told-2 c = search needs
 returns-3 : tie.Need-returns-3 Inv-loop μ-loop
 returns-3 c =
     let k = c .before .before in
-    let e = k .before .before in
-    let l = e .before .before in
-    let a = l .before .before .args in
-    let byte = classesOf (a .t .now) in
-    let read = ap (changeOf byte (a .n)) (sym (rest-is (a .list .now) (l .loop .place))) ∙ sym (k .read .ensures) ∙ c .enum-told2 .given .1 in
-    let z : 4096 - l .loop .count ≡ suc (4096 - (l .loop .count + 1)) = omega arith in
-    let fewer = ap (λ k. editsFrom byte (a .n) (a .list .now) k (l .loop .place)) z in
-    sym (ap (told (l .loop .count)) (fewer ∙ from-bad-name byte (a .n) (a .list .now) (l .loop .place) (search needs) (4096 - (l .loop .count + 1)) read)) ∙ l .loop .inv .1
+    let l = turn k in
+    decides l (fewer k ∙ from-bad-name (byte l) (n l) (list l) (place l) (inside k) (turns k) (is-read k ∙ c .enum-told2 .given .1))
 
 returns-4 : tie.Need-returns-4 Inv-loop μ-loop
 returns-4 c =
     let l = c .before in
-    let a = l .before .before .args in
-    let z : l .loop .count ≡ l .loop .count + 0 = omega arith in
-    ap Count z ∙ sym (ap (told (l .loop .count)) (from-end (classesOf (a .t .now)) (a .n) (a .list .now) (l .loop .place) (4096 - l .loop .count) (c .loop-test .left))) ∙ l .loop .inv .1
+    let z : count l ≡ count l + 0 = omega arith in
+    ap Count z ∙ decides l (from-end (byte l) (n l) (list l) (place l) (4096 - count l) (c .loop-test .left))
 
 pub count-spec : {M : Type 1} → statement M
 count-spec =

@@ -1,26 +1,94 @@
 -- `edit::list::prepare` meets its contract.
 use mathlib.Core.Path.{_≡_, sym, ap, _∙_}
-use mathlib.Core.List.{_++_}
-use Prim.Native.Nat.{ℕ, _≤_, _<_}
+use mathlib.Core.Bool.{false}
+use mathlib.Core.List.{List, _++_}
+use Prim.Native.Nat.{ℕ, _≤_}
 use native.Mathlib.Omega.{arith}
 use lib.ListN.{length, take, drop, length-append, length-drop}
 use borrow.Author.Tests.{ltb-false}
-use Rattle.parse.specs.Class.{classesOf}
+use Rattle.parse.specs.Class.{Classes, classesOf}
 use Rattle.parse.specs.Limit.{overLimit}
-use Rattle.edit.specs.List.{editsOf, placesOf, inOrder, twinsOf}
+use Rattle.edit.specs.declared.list.Edits.the-variants.{Count}
+use Rattle.edit.specs.List.{editsOf, told, placesOf, inOrder, twinsOf}
 use Rattle.edit.proofs.Ordering.{length-order, front, behind, as-long}
 use Rattle.edit.proofs.Outcomes.{told-count, comes-large, comes-malformed, comes-bad-name, comes-many, comes-short, comes-ready}
 use borrow.Author.Needs.{needs}
 use Rattle.edit.proofs.list.prepare.Statement.{statement}
 use Rattle.edit.proofs.list.prepare.Tie as tie
 
+-- ---- what is known at each place
+
+module _ (b : tie.Start) where
+  abbrev byte : Classes
+  byte = classesOf (b .args .t .now)
+
+  abbrev n : ℕ
+  n = b .args .n
+
+  abbrev list : List ℕ
+  list = b .args .list .now
+
+  abbrev index : List ℕ
+  index = b .args .index .now
+
+  abbrev places : List ℕ
+  places = placesOf (editsOf byte n list)
+
+-- the list is not too large, and its edits are counted
+module _ (m : tie.After-count) where
+  abbrev start : tie.Start
+  start = m .before .before .before .before .before
+
+  within : overLimit (length (list start)) ≡ false
+  within = sym (m .before .before .over-limit .ensures) ∙ m .before .if1 .left
+
+-- so many edits
+module _ (k : tie.After-k) where
+  abbrev counted : tie.After-count
+  counted = k .before .before
+
+  abbrev number : ℕ
+  number = k .k .given .0 .0
+
+  is-number : told 0 (editsOf (byte (start counted)) (n (start counted)) (list (start counted))) ≡ Count number
+  is-number = sym (counted .count .ensures) ∙ k .k .given .1
+
+-- their places stand in the index
+module _ (f : tie.After-fill) where
+  abbrev of-number : tie.After-k
+  of-number = f .before .before .before .before
+
+  abbrev its-start : tie.Start
+  its-start = start (counted of-number)
+
+  abbrev filled : List ℕ
+  filled = f .fill .last .1 .1 .1 .0
+
+  abbrev j : ℕ
+  j = number of-number
+
+  places-are : length (places its-start) ≡ j
+  places-are = told-count (editsOf (byte its-start) (n its-start) (list its-start)) j (is-number of-number) .1
+
+  room : j ≤ length (index its-start)
+  room = search needs
+
+  long : length filled ≡ length (index its-start)
+  long = as-long (places its-start) (index its-start) filled j (f .fill .ensures) places-are room
+
+  in-front : take j filled ≡ places its-start
+  in-front = front (places its-start) (index its-start) filled j (f .fill .ensures) places-are room
+
+  left : drop j filled ≡ drop j (index its-start)
+  left = behind (places its-start) (index its-start) filled j (f .fill .ensures) places-are room
+
 over-limit-requires : tie.Need-over-limit-requires
 over-limit-requires c κs = search needs
 
 returns : tie.Need-returns
 returns c =
-    let a = c .before .before .before .before .args in
-    comes-large (classesOf (a .t .now)) (a .n) (a .list .now) (a .index .now) (sym (c .before .over-limit .ensures) ∙ c .if1 .taken)
+    let b = c .before .before .before .before in
+    comes-large (byte b) (n b) (list b) (index b) (sym (c .before .over-limit .ensures) ∙ c .if1 .taken)
 
 count-requires : tie.Need-count-requires
 count-requires c κs = search needs
@@ -40,101 +108,61 @@ enum-known-k c = search needs
 returns-2 : tie.Need-returns-2
 returns-2 c =
     let k = c .before .before in
-    let m = k .before .before in
-    let e = m .before in
-    let a = e .before .before .before .before .args in
-    comes-short (classesOf (a .t .now)) (a .n) (a .list .now) (a .index .now) (sym (e .before .over-limit .ensures) ∙ e .if1 .left)
-    (k .k .given .0 .0) (sym (m .count .ensures) ∙ k .k .given .1) (c .if2 .taken)
+    let b = start (counted k) in
+    comes-short (byte b) (n b) (list b) (index b) (within (counted k)) (number k) (is-number k) (c .if2 .taken)
 
 fill-requires : tie.Need-fill-requires
 unfolding overLimit
 fill-requires c κs =
-    let g = c .before in
-    let k = g .before .before in
-    let m = k .before .before in
-    let e = m .before in
-    let a = e .before .before .before .before .args in
-    let byte = classesOf (a .t .now) in
-    let whole = told-count (editsOf byte (a .n) (a .list .now)) (k .k .given .0 .0) (sym (m .count .ensures) ∙ k .k .given .1) in (
-      omega (arith, ltb-false 1073741824 (length (a .list .now)) (sym (e .before .over-limit .ensures) ∙ e .if1 .left)),
-      whole .2,
-      omega (arith, whole .1, g .if2 .left),
-    )
+    let k = c .before .before .before in
+    let b = start (counted k) in
+    let whole = told-count (editsOf (byte b) (n b) (list b)) (number k) (is-number k) in
+    (omega (arith, ltb-false 1073741824 (length (list b)) (within (counted k))), whole .2, omega (arith, whole .1, c .before .if2 .left))
 
 put-in-order-requires : tie.Need-put-in-order-requires
-put-in-order-requires c κs =
-    let f = c .before .before .before in
-    let g = f .before .before in
-    let k = g .before .before in
-    let m = k .before .before in
-    let e = m .before in
-    let a = e .before .before .before .before .args in
-    let byte = classesOf (a .t .now) in
-    let whole = told-count (editsOf byte (a .n) (a .list .now)) (k .k .given .0 .0) (sym (m .count .ensures) ∙ k .k .given .1) in
-    let places = placesOf (editsOf byte (a .n) (a .list .now)) in
-    let filled = f .fill .last .1 .1 .1 .0 in
-    omega (arith, as-long places (a .index .now) filled (k .k .given .0 .0) (f .fill .ensures) (whole .1) (search needs), g .if2 .left)
+put-in-order-requires c κs = let f = c .before .before .before in omega (arith, long f, room f)
 
 returns-3 : tie.Need-returns-3
 returns-3 c =
-    let m = c .before .before .before in
-    let e = m .before in
-    let a = e .before .before .before .before .args in
-    comes-malformed (classesOf (a .t .now)) (a .n) (a .list .now) (a .index .now) (sym (e .before .over-limit .ensures) ∙ e .if1 .left)
-    (c .before .place .given .0 .0) (sym (m .count .ensures) ∙ c .before .place .given .1)
+    let p = c .before in
+    let m = p .before .before in
+    let b = start m in
+    comes-malformed (byte b) (n b) (list b) (index b) (within m) (p .place .given .0 .0) (sym (m .count .ensures) ∙ p .place .given .1)
 
 returns-4 : tie.Need-returns-4
 returns-4 c =
-    let m = c .before .before .before in
-    let e = m .before in
-    let a = e .before .before .before .before .args in
-    comes-bad-name (classesOf (a .t .now)) (a .n) (a .list .now) (a .index .now) (sym (e .before .over-limit .ensures) ∙ e .if1 .left)
-    (c .before .place2 .given .0 .0) (sym (m .count .ensures) ∙ c .before .place2 .given .1)
+    let p = c .before in
+    let m = p .before .before in
+    let b = start m in
+    comes-bad-name (byte b) (n b) (list b) (index b) (within m) (p .place2 .given .0 .0) (sym (m .count .ensures) ∙ p .place2 .given .1)
 
 returns-5 : tie.Need-returns-5
 returns-5 c =
-    let m = c .before .before .before in
-    let e = m .before in
-    let a = e .before .before .before .before .args in
-    comes-many (classesOf (a .t .now)) (a .n) (a .list .now) (a .index .now) (sym (e .before .over-limit .ensures) ∙ e .if1 .left)
-    (c .before .place3 .given .0 .0) (sym (m .count .ensures) ∙ c .before .place3 .given .1)
+    let p = c .before in
+    let m = p .before .before in
+    let b = start m in
+    comes-many (byte b) (n b) (list b) (index b) (within m) (p .place3 .given .0 .0) (sym (m .count .ensures) ∙ p .place3 .given .1)
 
 same-length : tie.Need-same-length
 same-length c =
     let o = c .before .before in
     let f = o .before .before .before .before in
-    let g = f .before .before in
-    let k = g .before .before in
-    let m = k .before .before in
-    let e = m .before in
-    let a = e .before .before .before .before .args in
-    let byte = classesOf (a .t .now) in
-    let whole = told-count (editsOf byte (a .n) (a .list .now)) (k .k .given .0 .0) (sym (m .count .ensures) ∙ k .k .given .1) in
-    let places = placesOf (editsOf byte (a .n) (a .list .now)) in
-    let filled = f .fill .last .1 .1 .1 .0 in
-    let j = k .k .given .0 .0 in
-    let long = as-long places (a .index .now) filled (k .k .given .0 .0) (f .fill .ensures) (whole .1) (search needs) in
-    let room : j ≤ length filled = omega (arith, long, g .if2 .left) in
-    omega (arith, ap length (o .put-in-order .ensures .1), length-append (inOrder (a .list .now) (take j filled)) (drop j filled), length-order (a .list .now) filled j room, length-drop j filled, long)
+    let here = list (its-start f) in
+    let fits : j f ≤ length (filled f) = omega (arith, long f, room f) in
+    omega (arith, ap length (o .put-in-order .ensures .1), length-append (inOrder here (take (j f) (filled f))) (drop (j f) (filled f)), length-order here (filled f) (j f) fits, length-drop (j f) (filled f), long f)
 
 returns-6 : tie.Need-returns-6
 returns-6 c =
     let o = c .before .before in
     let f = o .before .before .before .before in
-    let g = f .before .before in
-    let k = g .before .before in
-    let m = k .before .before in
-    let e = m .before in
-    let a = e .before .before .before .before .args in
-    let byte = classesOf (a .t .now) in
-    let whole = told-count (editsOf byte (a .n) (a .list .now)) (k .k .given .0 .0) (sym (m .count .ensures) ∙ k .k .given .1) in
-    let places = placesOf (editsOf byte (a .n) (a .list .now)) in
-    let filled = f .fill .last .1 .1 .1 .0 in
-    let j = k .k .given .0 .0 in
-    let list = a .list .now in
-    let ready = comes-ready byte (a .n) list (a .index .now) (sym (e .before .over-limit .ensures) ∙ e .if1 .left) j (sym (m .count .ensures) ∙ k .k .given .1) (search needs) in (
-      o .put-in-order .ensures .0 ∙ ap (λ l. twinsOf list j (inOrder list l)) (front places (a .index .now) filled (k .k .given .0 .0) (f .fill .ensures) (whole .1) (search needs)) ∙ ready .0,
-      o .put-in-order .ensures .1 ∙ ap (λ l. inOrder list l ++ drop j filled) (front places (a .index .now) filled (k .k .given .0 .0) (f .fill .ensures) (whole .1) (search needs)) ∙ ap (λ l. inOrder list places ++ l) (behind places (a .index .now) filled (k .k .given .0 .0) (f .fill .ensures) (whole .1) (search needs)) ∙ ready .1,
+    let k = of-number f in
+    let b = its-start f in
+    let ready = comes-ready (byte b) (n b) (list b) (index b) (within (counted k)) (number k) (is-number k) (room f) in (
+      o .put-in-order .ensures .0 ∙ ap (λ l. twinsOf (list b) (j f) (inOrder (list b) l)) (in-front f) ∙ ready .0,
+      o .put-in-order .ensures .1
+          ∙ ap (λ l. inOrder (list b) l ++ drop (j f) (filled f)) (in-front f)
+          ∙ ap (λ l. inOrder (list b) (places b) ++ l) (left f)
+          ∙ ready .1,
     )
 
 pub prepare-spec : {M : Type 1} → statement M

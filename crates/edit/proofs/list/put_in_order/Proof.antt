@@ -1,10 +1,9 @@
 -- `edit::list::put_in_order` meets its contract.
 use mathlib.Core.Path.{_≡_, sym, ap, _∙_}
 use mathlib.Core.List.{_++_}
-use Prim.Native.Nat.{ℕ}
-use lib.ListN.{length, take, drop}
+use lib.ListN.{length, drop}
 use lib.Seq.{length-take-le, take-at}
-use Rattle.edit.specs.List.{inOrder, twinsOf}
+use Rattle.edit.specs.List.{twinsOf}
 use Rattle.edit.proofs.Ordering.{length-order}
 use borrow.Author.Needs.{needs}
 use Rattle.edit.proofs.list.put_in_order.Statement.{statement}

@@ -1,5 +1,5 @@
 -- `edit::list::twins` meets its contract.
-use mathlib.Core.Path.{_≡_, sym, _∙_}
+use mathlib.Core.Path.{sym, _∙_}
 use Rattle.edit.specs.List.{twinsOf}
 use borrow.Author.Needs.{needs}
 use Rattle.edit.proofs.list.twins.Statement.{statement}

@@ -4,26 +4,28 @@ use Rattle.loose.specs.declared.Loose.{Loose}
 use Rattle.loose.specs.declared.LooseAnswer.{LooseAnswer}
 use Rattle.loose.specs.declared.LooseAnswer.the-variants.{Done}
 use Rattle.loose.specs.Loose.{looseAnswer}
-use Rattle.host.specs.Content.{looseReply}
 use borrow.Author.Needs.{needs}
 use Rattle.host.proofs.content.packed_refs_loose.Statement.{statement}
 use Rattle.host.proofs.content.packed_refs_loose.Tie as tie
 
 -- what the layer answered
 module _ (a : tie.After-read) where
+  abbrev start : tie.Start
+  start = a .before .before
+
   abbrev answer : LooseAnswer
-  answer = looseAnswer (a .before .before .args .kind) (a .before .before .args .content .now)
+  answer = looseAnswer (start .args .kind) (start .args .content .now)
 
   is : {which : LooseAnswer} → a .read .result ≡ which → answer ≡ which
   is e = sym (a .read .ensures) ∙ e
 
--- it was not refused
+-- it was no refusal
 module _ (k : tie.After-known-told) where
-  abbrev read : tie.After-read
-  read = k .before .before .before
+  abbrev asked : tie.After-read
+  asked = k .before .before .before
 
-  says : {which : Loose} → k .before .said .given .0 .0 ≡ which → answer read ≡ Done which
-  says e = is read (k .before .said .given .1 ∙ ap Done e)
+  says : {which : Loose} → k .before .said .given .0 .0 ≡ which → answer asked ≡ Done which
+  says e = is asked (k .before .said .given .1 ∙ ap Done e)
 
 read-requires : tie.Need-read-requires
 read-requires c κs = search needs
@@ -68,7 +70,7 @@ gives-requires-6 : tie.Need-gives-requires-6
 gives-requires-6 c κs = search needs
 
 returns : tie.Need-returns
-returns c = c .gives .ensures ∙ ap looseReply (sym (says (c .before .before .before .before) (c .before .before .said2 .given .1)))
+returns c = rw (says (c .before .before .before .before) (c .before .before .said2 .given .1)) (c .gives .ensures)
 
 returns-2 : tie.Need-returns-2
 returns-2 c = rw (says (c .before .before .before .before) (c .before .before .said3 .given .1)) (c .gives2 .ensures)

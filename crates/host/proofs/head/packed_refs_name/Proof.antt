@@ -1,5 +1,5 @@
 -- `host::head::packed_refs_name` meets its contract.
-use mathlib.Core.Path.{_≡_, sym, _∙_}
+use mathlib.Core.Path.{sym, _∙_}
 use Rattle.host.specs.Head.{nameNumber}
 use borrow.Author.Needs.{needs}
 use Rattle.host.proofs.head.packed_refs_name.Statement.{statement}

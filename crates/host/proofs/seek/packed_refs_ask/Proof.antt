@@ -7,7 +7,6 @@ use Rattle.find.specs.Ask.{askAnswer}
 use Prim.Native.Nat.{ℕ}
 use Rattle.decode.specs.declared.reference.Record.{Record}
 use Rattle.find.specs.declared.ask.Told.the-variants.{Charted}
-use Rattle.host.specs.Seek.{askBare}
 use Rattle.host.proofs.Near.{Near, ask-near}
 use borrow.Author.Needs.{needs}
 use Rattle.host.proofs.seek.packed_refs_ask.Statement.{statement}
@@ -108,7 +107,7 @@ returns-4 : tie.Need-returns-4
 returns-4 c = rw (says (c .before .before .before .before) (c .before .before .said3 .given .1)) (c .ask-bare3 .ensures)
 
 returns-5 : tie.Need-returns-5
-returns-5 c = rw (says (c .before .before .before .before .before) (c .before .before .before .said4 .given .1)) (c .ask-bare4 .ensures ∙ ap (λ number. askBare number (c .before .before .before .said4 .given .0 .0) 0) (c .before .fault-number .ensures))
+returns-5 c = rw (says (c .before .before .before .before .before) (c .before .before .before .said4 .given .1), ← c .before .fault-number .ensures) (c .ask-bare4 .ensures)
 
 returns-6 : tie.Need-returns-6
 returns-6 c = rw (says (c .before .before .before .before) (c .before .before .said5 .given .1)) (c .ask-bare5 .ensures)

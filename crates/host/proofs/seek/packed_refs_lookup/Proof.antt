@@ -7,7 +7,6 @@ use Rattle.find.specs.Lookup.{lookupAnswer}
 use Prim.Native.Nat.{ℕ}
 use Rattle.decode.specs.declared.reference.Record.{Record}
 use Rattle.find.specs.declared.lookup.Lookup.the-variants.{Charted}
-use Rattle.host.specs.Seek.{lookupBare}
 use Rattle.host.proofs.Near.{Near, lookup-near}
 use borrow.Author.Needs.{needs}
 use Rattle.host.proofs.seek.packed_refs_lookup.Statement.{statement}
@@ -93,7 +92,7 @@ returns : tie.Need-returns
 returns c = rw (says (c .before .before .before .before .before) (c .before .before .before .said2 .given .1), c .before .name-at .ensures, c .peeled-at .ensures)
 
 returns-2 : tie.Need-returns-2
-returns-2 c = rw (says (c .before .before .before .before .before) (c .before .before .before .said3 .given .1)) (c .lookup-bare .ensures ∙ ap (λ number. lookupBare number (c .before .before .before .said3 .given .0 .0)) (c .before .fault-number .ensures))
+returns-2 c = rw (says (c .before .before .before .before .before) (c .before .before .before .said3 .given .1), ← c .before .fault-number .ensures) (c .lookup-bare .ensures)
 
 returns-3 : tie.Need-returns-3
 returns-3 c = rw (says (c .before .before .before) (c .before .enum-told .given .1)) (c .lookup-bare2 .ensures)

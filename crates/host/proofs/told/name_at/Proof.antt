@@ -1,6 +1,6 @@
 -- `host::told::name_at` meets its contract.
 use mathlib.Core.Path.{_≡_, sym, _∙_}
-use Prim.Native.Nat.{ℕ, _≤_}
+use Prim.Native.Nat.{_≤_}
 use native.Mathlib.Omega.{arith}
 use Rattle.parse.specs.declared.limit.IdKind.{IdKind}
 use Rattle.parse.specs.Limit.{digitsOf}

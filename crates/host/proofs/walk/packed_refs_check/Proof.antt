@@ -4,7 +4,6 @@ use Rattle.iter.specs.declared.check.Verdict.{Verdict}
 use Rattle.iter.specs.declared.check.CheckAnswer.{CheckAnswer}
 use Rattle.iter.specs.declared.check.CheckAnswer.the-variants.{Done}
 use Rattle.iter.specs.Check.{checkAnswer}
-use Rattle.host.specs.Walk.{checkGives}
 use borrow.Author.Needs.{needs}
 use Rattle.host.proofs.walk.packed_refs_check.Statement.{statement}
 use Rattle.host.proofs.walk.packed_refs_check.Tie as tie
@@ -80,7 +79,7 @@ returns-2 : tie.Need-returns-2
 returns-2 c = rw (says (c .before .before .before .before) (c .before .before .verdict3 .given .1)) (c .check-gives2 .ensures)
 
 returns-3 : tie.Need-returns-3
-returns-3 c = rw (says (c .before .before .before .before .before) (c .before .before .before .verdict4 .given .1)) (c .check-gives3 .ensures ∙ ap (λ number. checkGives number (c .before .before .before .verdict4 .given .0 .0) 0 0) (c .before .fault-number .ensures))
+returns-3 c = rw (says (c .before .before .before .before .before) (c .before .before .before .verdict4 .given .1), ← c .before .fault-number .ensures) (c .check-gives3 .ensures)
 
 returns-4 : tie.Need-returns-4
 returns-4 c = rw (says (c .before .before .before .before) (c .before .before .verdict5 .given .1)) (c .check-gives4 .ensures)

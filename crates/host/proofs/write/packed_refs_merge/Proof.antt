@@ -1,5 +1,5 @@
 -- `host::write::packed_refs_merge` meets its contract.
-use mathlib.Core.Path.{_≡_, ap, _∙_}
+use mathlib.Core.Path.{ap, _∙_}
 use Rattle.host.specs.Write.{mergeReply}
 use borrow.Author.Needs.{needs}
 use Rattle.host.proofs.write.packed_refs_merge.Statement.{statement}

@@ -1,6 +1,4 @@
 -- `host::write::told` meets its contract.
-use mathlib.Core.Path.{_≡_, ap, _∙_}
-use Rattle.host.specs.Write.{mergeGives}
 use borrow.Author.Needs.{needs}
 use Rattle.host.proofs.write.told.Statement.{statement}
 use Rattle.host.proofs.write.told.Tie as tie
@@ -123,7 +121,7 @@ returns-9 : tie.Need-returns-9
 returns-9 c = rw (c .before .before .merged6 .given .1) (c .gives9 .ensures)
 
 returns-10 : tie.Need-returns-10
-returns-10 c = rw (c .before .before .before .merged7 .given .1) (c .gives10 .ensures ∙ ap (λ number. mergeGives number (c .before .before .before .merged7 .given .0 .0) 0 0) (c .before .fault-number .ensures))
+returns-10 c = rw (c .before .before .before .merged7 .given .1, ← c .before .fault-number .ensures) (c .gives10 .ensures)
 
 returns-11 : tie.Need-returns-11
 returns-11 c = rw (c .before .before .merged8 .given .1) (c .gives11 .ensures)

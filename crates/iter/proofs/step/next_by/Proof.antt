@@ -1,26 +1,72 @@
 -- `iter::step::next_by` meets its contract.
-use mathlib.Core.Path.{_≡_, refl, sym, ap, _∙_}
-use Prim.Native.Nat.{_+_, _-_, _≤_}
+use mathlib.Core.Path.{_≡_, sym, ap, _∙_}
+use mathlib.Core.List.{List}
+use Prim.Native.Nat.{ℕ, _+_, _-_}
 use native.Mathlib.Omega.{arith}
 use borrow.Author.Tests.{not-true, not-false}
-use lib.ListN.{length, take, drop, length-drop}
-use Rattle.parse.specs.Class.{classesOf}
+use lib.ListN.{drop, length-drop}
+use Rattle.parse.specs.Class.{Classes, classesOf}
 use Rattle.parse.specs.Line.{lineLen}
 use Rattle.parse.specs.Prefix.{begins}
 use Rattle.parse.proofs.Fronts.{lineLen-some}
-use Rattle.parse.proofs.Slices.{rest-is}
-use Rattle.decode.specs.Record.{recordOf}
+use Rattle.decode.specs.declared.reference.Record.{Record}
+use Rattle.decode.specs.declared.reference.Reading.the-variants as reading
 use Rattle.iter.specs.declared.step.Step.the-variants.{Good}
-use Rattle.iter.proofs.Turns.{next-inside}
+use Rattle.iter.proofs.ItemRead.{Reads, reads, told, goes-on, named, named-is}
 use Rattle.iter.proofs.Steps.{step-end, step-other, step-good, step-error, error-alike}
 use borrow.Author.Needs.{needs}
 use Rattle.iter.proofs.step.next_by.Statement.{statement}
 use Rattle.iter.proofs.step.next_by.Tie as tie
 
+-- ---- what is known at each place
+
+module _ (b : tie.Start) where
+  abbrev byte : Classes
+  byte = classesOf (b .args .t .now)
+
+  abbrev n : ℕ
+  n = b .args .n
+
+  abbrev prefix : List ℕ
+  prefix = b .args .prefix .now
+
+  abbrev file : List ℕ
+  file = b .args .s .now
+
+  abbrev place : ℕ
+  place = b .args .place
+
+-- the item at the place is read
+module _ (k : tie.After-reference) where
+  abbrev start : tie.Start
+  start = k .before .before .before .before .before
+
+  is-read : Reads (byte start) (n start) (file start) (place start) (k .reference .result)
+  is-read = reads (search needs) (k .reference .ensures)
+
+-- it is a record
+module _ (f : tie.After-found) where
+  abbrev its-start : tie.Start
+  its-start = start (f .before .before)
+
+  abbrev it : Record
+  it = f .found .given .0 .0
+
+  is-record : Reads (byte its-start) (n its-start) (file its-start) (place its-start) (reading.Good it)
+  is-record = told (is-read (f .before .before)) (f .found .given .1)
+
+-- its name is held against the prefix
+module _ (q : tie.After-begins-with) where
+  abbrev of-record : tie.After-found
+  of-record = q .before .before .before
+
+  begins-is : begins (prefix (its-start of-record)) (named (is-record of-record)) ≡ q .begins-with .result
+  begins-is = ap (begins (prefix (its-start of-record))) (sym (named-is (is-record of-record) (q .before .name-of .ensures))) ∙ sym (q .begins-with .ensures)
+
 returns : tie.Need-returns
 returns c =
-    let a = c .before .before .before .args in
-    sym (step-end (classesOf (a .t .now)) (a .n) (a .prefix .now) (a .s .now) (a .place) (a .item) (c .if1 .taken))
+    let b = c .before .before .before in
+    sym (step-end (byte b) (n b) (prefix b) (file b) (place b) (b .args .item) (c .if1 .taken))
 
 sub-rest : tie.Need-sub-rest
 sub-rest c = search needs
@@ -45,25 +91,12 @@ begins-with-requires c κs = search needs
 
 returns-2 : tie.Need-returns-2
 returns-2 c =
-    let b = c .before in
-    let f = b .before .before .before in
-    let k = f .before .before in
-    let a = k .before .before .before .before .before .args in
-    let byte = classesOf (a .t .now) in
-    let rest = rest-is (a .s .now) (a .place) in
-    let read = ap (recordOf byte (a .n)) (sym rest) ∙ sym (k .reference .ensures) ∙ f .found .given .1 in
-    let begins! = ap (λ w. begins (a .prefix .now) w) (sym (b .before .name-of .ensures ∙ ap (λ r. take (f .found .given .0 .0 .name) (drop (a .n + 1) r)) rest)) ∙ sym (b .begins-with .ensures) ∙ not-true _ (c .if2 .taken) in
-    sym (step-other byte (a .n) (a .prefix .now) (a .s .now) (a .place) (a .item) (search needs) (f .found .given .0 .0) read begins!)
+    let f = of-record (c .before) in
+    let b = its-start f in
+    sym (step-other (byte b) (n b) (prefix b) (file b) (place b) (b .args .item) (is-record f .inside) (it f) (is-record f .is) (begins-is (c .before) ∙ not-true _ (c .if2 .taken)))
 
 add-t22 : tie.Need-add-t22
-add-t22 c =
-    let f = c .before .before .before .before .before in
-    let k = f .before .before in
-    let a = k .before .before .before .before .before .args in
-    let byte = classesOf (a .t .now) in
-    let rest = rest-is (a .s .now) (a .place) in
-    let read = ap (recordOf byte (a .n)) (sym rest) ∙ sym (k .reference .ensures) ∙ f .found .given .1 in
-    omega (arith, next-inside byte (a .n) (a .s .now) (a .place) (f .found .given .0 .0) read (search needs), k .before .before .before .before .before .good)
+add-t22 c = let f = of-record (c .before .before) in omega (arith, goes-on (is-record f), its-start f .good)
 
 one-more-requires : tie.Need-one-more-requires
 one-more-requires c κs = search needs
@@ -79,8 +112,8 @@ sub-t24 c = search needs
 
 sub-t25 : tie.Need-sub-t25
 sub-t25 c =
-    let a = c .before .before .before .before .before .before .before .before .before .args in
-    omega (arith, c .line-end .ensures, lineLen-some (drop (a .place) (a .s .now)) (omega (arith, length-drop (a .place) (a .s .now))))
+    let b = start (c .before .before .before .before) in
+    omega (arith, c .line-end .ensures, lineLen-some (drop (place b) (file b)) (omega (arith, length-drop (place b) (file b))))
 
 one-more-requires-2 : tie.Need-one-more-requires-2
 one-more-requires-2 c κs = search needs
@@ -88,27 +121,20 @@ one-more-requires-2 c κs = search needs
 returns-3 : tie.Need-returns-3
 returns-3 c =
     let g = c .before .before in
-    let b = g .before in
-    let f = b .before .before .before in
-    let k = f .before .before in
-    let a = k .before .before .before .before .before .args in
-    let byte = classesOf (a .t .now) in
-    let rest = rest-is (a .s .now) (a .place) in
-    let read = ap (recordOf byte (a .n)) (sym rest) ∙ sym (k .reference .ensures) ∙ f .found .given .1 in
-    let begins! = ap (λ w. begins (a .prefix .now) w) (sym (b .before .name-of .ensures ∙ ap (λ r. take (f .found .given .0 .0 .name) (drop (a .n + 1) r)) rest)) ∙ sym (b .begins-with .ensures) ∙ not-false _ (g .if2 .left) in
-    ap (Good (f .found .given .0 .0) (a .place + f .found .given .0 .0 .size)) (c .one-more .ensures) ∙ sym (step-good byte (a .n) (a .prefix .now) (a .s .now) (a .place) (a .item) (search needs) (f .found .given .0 .0) read begins!)
+    let f = of-record (g .before) in
+    let b = its-start f in
+    ap (Good (it f) (place b + it f .size)) (c .one-more .ensures)
+    ∙ sym (step-good (byte b) (n b) (prefix b) (file b) (place b) (b .args .item) (is-record f .inside) (it f) (is-record f .is) (begins-is (g .before) ∙ not-false _ (g .if2 .left)))
 
 returns-4 : tie.Need-returns-4
 returns-4 c =
     let e = c .before in
     let f = e .before .before in
-    let k = f .before .before in
-    let a = k .before .before .before .before .before .args in
-    let byte = classesOf (a .t .now) in
-    let rest = rest-is (a .s .now) (a .place) in
-    let read = ap (recordOf byte (a .n)) (sym rest) ∙ sym (k .reference .ensures) ∙ f .fault .given .1 in
-    let text : e .line-end .result - a .place - 1 ≡ lineLen (drop (a .place) (a .s .now)) - 1 = omega (arith, e .line-end .ensures) in
-    error-alike text (e .line-end .ensures) (c .one-more2 .ensures) ∙ sym (step-error byte (a .n) (a .prefix .now) (a .s .now) (a .place) (a .item) (search needs) (f .fault .given .0 .0) read)
+    let bad = told (is-read (f .before .before)) (f .fault .given .1) in
+    let b = start (f .before .before) in
+    let text : e .line-end .result - place b - 1 ≡ lineLen (drop (place b) (file b)) - 1 = omega (arith, e .line-end .ensures) in
+    error-alike text (e .line-end .ensures) (c .one-more2 .ensures)
+    ∙ sym (step-error (byte b) (n b) (prefix b) (file b) (place b) (b .args .item) (bad .inside) (f .fault .given .0 .0) (bad .is))
 
 pub next-by-spec : {M : Type 1} → statement M
 next-by-spec =

@@ -12,12 +12,12 @@ use Rattle.parse.specs.Choice.{if}
 use Rattle.parse.specs.Class.{Classes}
 use Rattle.name.specs.Name.{validName}
 use Rattle.sort.specs.Name.{editName}
 use Rattle.edit.specs.declared.change.Length.{Length}
 use Rattle.edit.specs.declared.change.Length.the-variants as long
 use Rattle.edit.specs.declared.change.Change.{Change}
 use Rattle.edit.specs.declared.change.Reading.the-variants.{Good, Malformed, BadName}
-use Rattle.edit.specs.Change.{lengthAt, measured, idBytes, changeOf, behindName}
+use Rattle.edit.specs.Change.{lengthAt, measured, idBytes, namedChange, changeOf, behindName}
 use Rattle.edit.proofs.Changes.{one-group, two-groups}
 
 -- ---- a length is one group or two
 
@@ -41,6 +41,14 @@ groups s at {len} {from} e =
     go true o false p true q e =
         let (some, small) = and-eq-true-iff (ltb 0 (getD s (at + 1) 0)) (ltb (getD s (at + 1) 0) 128) .0 q in
         two (ltb-true at (length s) o) (omega (arith, ltb-false (getD s at 0) 128 p)) (ltb-true 0 (getD s (at + 1) 0) some) (ltb-true (getD s (at + 1) 0) 128 small) (cc) (cc)
+
+-- two groups of seven bits, and the place behind them
+pub length-small : (s : List ℕ) (at : ℕ) {len from : ℕ} → lengthAt s at ≡ long.Of len from → (len < 16384) × (at < from) × (from ≤ at + 2)
+length-small s at {len} {from} e = go (groups s at e)
+  where
+    go : Groups s at len from → (len < 16384) × (at < from) × (from ≤ at + 2)
+    go (one i h l f) = (omega arith, omega arith, omega arith)
+    go (two i h some k l f) = (omega arith, omega arith, omega arith)
 
 module _ (list : List ℕ) (place : ℕ) {len from : ℕ} where
   -- the length reads the same in the whole list and in its part from the edit's place on
@@ -81,51 +89,56 @@ module _ (list : List ℕ) (place : ℕ) {len from : ℕ} where
 
 -- ---- a good edit
 
-pub record Whole (byte : Classes) (n : ℕ) (s : List ℕ) : Type 0 where
-  pub len : ℕ
-  pub from : ℕ
-  pub measure : lengthAt s 1 ≡ long.Of len from
-  pub known : getD s 0 0 ≤ 2
-  pub fits : from + len + idBytes (getD s 0 0) n ≤ length s
-  pub valid : validName byte (take len (drop from s)) ≡ true
-
-module _ (byte : Classes) (n : ℕ) (s : List ℕ) (c : Change) where
+module _ (byte : Classes) (n : ℕ) (s : List ℕ) where
   abbrev kind : ℕ
   kind = getD s 0 0
 
-  whole-by : (len from : ℕ) → lengthAt s 1 ≡ long.Of len from → kind ≤ 2 → (bad : Bool)
-      → (whole : Bool) → leb (from + len + idBytes kind n) (length s) ≡ whole → (valid : Bool) → validName byte (take len (drop from s)) ≡ valid
-      → if bad BadName
-      (if whole (if valid (Good (record { kind = kind; from = from; name = len; size = from + len + idBytes kind n })) BadName) Malformed)
-      ≡ Good c
-      → Whole byte n s
-  whole-by len from m k true w q v p e = absurd (let z : _≡_ {A = ℕ} 0 1 = cc in omega arith)
-  whole-by len from m k false false q v p e = absurd (let z : _≡_ {A = ℕ} 0 1 = cc in omega arith)
-  whole-by len from m k false true q false p e = absurd (let z : _≡_ {A = ℕ} 0 1 = cc in omega arith)
-  whole-by len from m k false true q true p e =
-      record { len = len; from = from; measure = m; known = k; fits = leb-true (from + len + idBytes kind n) (length s) q; valid = p }
+  abbrev of-parts : ℕ → ℕ → Change
+  of-parts len from = record { kind = kind; from = from; name = len; size = from + len + idBytes kind n }
 
-  pub good-whole : changeOf byte n s ≡ Good c → Whole byte n s
-  unfolding changeOf
-  good-whole e = go (ltb 0 (length s) && leb kind 2) refl (lengthAt s 1) refl e
-    where
-      go : (a : Bool) → (ltb 0 (length s) && leb kind 2) ≡ a → (l : Length) → lengthAt s 1 ≡ l
-          → if a
-          (measured l
-          (λ len from.
-          if (eqb len 0 || ltb 4096 len) BadName
-          (if (leb (from + len + idBytes kind n) (length s))
-          (if (validName byte (take len (drop from s)))
-          (Good (record { kind = kind; from = from; name = len; size = from + len + idBytes kind n }))
-          BadName)
-          Malformed))
-          Malformed)
-          Malformed
-          ≡ Good c
-          → Whole byte n s
-      go false t l m q = absurd (let z : _≡_ {A = ℕ} 0 1 = cc in omega arith)
-      go true t long.Malformed m q = absurd (let z : _≡_ {A = ℕ} 0 1 = cc in omega arith)
-      go true t (long.Of len from) m q =
-          let known = leb-true kind 2 (and-eq-true-iff (ltb 0 (length s)) (leb kind 2) .0 t .1) in
-          whole-by len from m known (eqb len 0 || ltb 4096 len) (leb (from + len + idBytes kind n) (length s)) refl
-          (validName byte (take len (drop from s))) refl q
+  pub record Whole : Type 0 where
+    pub len : ℕ
+    pub from : ℕ
+    pub measure : lengthAt s 1 ≡ long.Of len from
+    pub known : kind ≤ 2
+    pub fits : from + len + idBytes kind n ≤ length s
+    pub valid : validName byte (take len (drop from s)) ≡ true
+    pub is : changeOf byte n s ≡ Good (of-parts len from)
+
+  module _ (c : Change) (e : changeOf byte n s ≡ Good c) where
+    pub good-whole : Whole
+    unfolding changeOf namedChange
+    good-whole = go (ltb 0 (length s) && leb kind 2) refl (lengthAt s 1) refl e
+      where
+        named : (len from : ℕ) → lengthAt s 1 ≡ long.Of len from → kind ≤ 2 → (bad : Bool)
+            → (full : Bool) → leb (from + len + idBytes kind n) (length s) ≡ full → (valid : Bool) → validName byte (take len (drop from s)) ≡ valid
+            → if bad BadName (if full (if valid (Good (of-parts len from)) BadName) Malformed) ≡ Good c → Whole
+        named len from m k true w q v p r = absurd (let z : _≡_ {A = ℕ} 0 1 = cc in omega arith)
+        named len from m k false false q v p r = absurd (let z : _≡_ {A = ℕ} 0 1 = cc in omega arith)
+        named len from m k false true q false p r = absurd (let z : _≡_ {A = ℕ} 0 1 = cc in omega arith)
+        named len from m k false true q true p r =
+            record { len = len; from = from; measure = m; known = k; fits = leb-true (from + len + idBytes kind n) (length s) q; valid = p; is = e ∙ sym r }
+
+        go : (a : Bool) → (ltb 0 (length s) && leb kind 2) ≡ a → (l : Length) → lengthAt s 1 ≡ l
+            → if a (measured l (λ len from. namedChange byte s kind from len (idBytes kind n)) Malformed) Malformed ≡ Good c → Whole
+        go false t l m q = absurd (let z : _≡_ {A = ℕ} 0 1 = cc in omega arith)
+        go true t long.Malformed m q = absurd (let z : _≡_ {A = ℕ} 0 1 = cc in omega arith)
+        go true t (long.Of len from) m q =
+            let known = leb-true kind 2 (and-eq-true-iff (ltb 0 (length s)) (leb kind 2) .0 t .1) in
+            named len from m known (eqb len 0 || ltb 4096 len) (leb (from + len + idBytes kind n) (length s)) refl
+            (validName byte (take len (drop from s))) refl q
+
+    -- it takes some bytes, and they stand there
+    change-fits : (0 < c .size) × (c .size ≤ length s)
+    change-fits =
+        let w = good-whole in
+        let same : Good (of-parts (w .len) (w .from)) ≡ Good c = sym (w .is) ∙ e in
+        let size : w .from + w .len + idBytes kind n ≡ c .size = cc in
+        (omega (arith, length-small s 1 (w .measure)), omega (arith, w .fits))
+
+-- so the next edit stands farther on, or the list ends there
+pub edit-goes-on : (byte : Classes) (n : ℕ) (list : List ℕ) (place : ℕ) (c : Change) → changeOf byte n (drop place list) ≡ Good c
+    → (place < place + c .size) × (place + c .size ≤ length list)
+edit-goes-on byte n list place c e =
+    let fits = change-fits byte n (drop place list) c e in
+    (omega (arith, fits .0), omega (arith, fits, length-drop place list))
