@@ -1,0 +1,31 @@
+#!/usr/bin/env bash
+# ./bench [ROUNDS]: measures the library beside the Rust on the same bytes and writes docs/BENCHMARKS.md and docs/benchmarks.svg. Not part of the gate.
+# Takes about five minutes with 5 rounds.
+#   ORACLE_DIR   a copy of the oracle's folder that may be written to (default: target/oracle, copied from ../shared/oracle); benchmark/gix.rs takes the
+#                place of its src/bench.rs there
+#   GIX_SRC, ORACLE_SCRATCH   as the oracle's README says
+#   LIBHOST      the library (default: target/staticlib/libhost.a, made by rt staticlib host)
+#   INCLUDE      where packed_refs.h is (default: include)
+#   BENCH_DATA   where the files to measure on are kept (default: target/bench)
+set -eu
+root=$(cd "$(dirname "$0")/.." && pwd)
+if [ -z "${ORACLE_DIR:-}" ]; then
+    ORACLE_DIR=$root/target/oracle
+    mkdir -p "$root/target"
+    [ -d "$ORACLE_DIR" ] || cp -r "$root/../shared/oracle" "$ORACLE_DIR"
+    export GIX_SRC=${GIX_SRC:-$root/../shared/docs/src}
+    [ -d "${ORACLE_SCRATCH:-$ORACLE_DIR/.scratch}/vendor" ] || (cd "$ORACLE_DIR" && ./fetch.sh)
+fi
+BENCH_DATA=${BENCH_DATA:-$root/target/bench}
+mkdir -p "$BENCH_DATA"
+if [ -z "${LIBHOST:-}" ]; then
+    (cd "$root" && rt staticlib host) >"$BENCH_DATA/build.log" 2>&1 || { tail -n 20 "$BENCH_DATA/build.log"; exit 1; }
+    LIBHOST=$root/target/staticlib/libhost.a
+fi
+cc -O2 -Wall -Wextra -Werror -I"${INCLUDE:-$root/include}" -o "$BENCH_DATA/ours" "$root/benchmark/ours.c" "$LIBHOST"
+cmp -s "$root/benchmark/gix.rs" "$ORACLE_DIR/src/bench.rs" || cp "$root/benchmark/gix.rs" "$ORACLE_DIR/src/bench.rs"
+program=$(cd "$ORACLE_DIR" && ./build.sh 2>>"$BENCH_DATA/build.log" | tail -n 1)
+for n in 1000 100000 1000000; do
+    [ -s "$BENCH_DATA/packed-$n" ] || python3 "$ORACLE_DIR/bench/gen.py" "$n" >"$BENCH_DATA/packed-$n"
+done
+OURS=$BENCH_DATA/ours GIX=$(dirname "$program")/bench BENCH_DATA=$BENCH_DATA PYTHONDONTWRITEBYTECODE=1 python3 "$root/benchmark/run.py" "$@"

@@ -1,0 +1,308 @@
+"""What the Rust answers, in the one-line form that compare/ours.c and the vectors use (compare/README.md), and which inputs lie outside the
+domain that both sides share. A question is (operation, kind, lent bytes and numbers ..); a merge's edits are a list of tuples."""
+import re
+
+DIGITS = {1: 40, 2: 64}
+
+
+def hexed(b):
+    return b.hex() or "-"
+
+
+def edit_bytes(edits):
+    """The edit list as bytes: document 01, 'Edits and merge'."""
+    out = bytearray()
+    for e in edits:
+        n = len(e[1])
+        out.append({"d": 0, "u": len(e) - 2}[e[0]])
+        out += bytes([n]) if n < 128 else bytes([n & 127 | 128, n >> 7])
+        out += b"".join(e[1:])
+    return bytes(out)
+
+
+def edit_places(edits):
+    out, at = [], 0
+    for e in edits:
+        out.append(at)
+        at += len(edit_bytes([e]))
+    return out
+
+
+def ours_line(q):
+    """The question to compare/ours.c."""
+    op, kind, *rest = q
+    return f"{op} {kind} " + " ".join(str(x) if isinstance(x, int) else hexed(edit_bytes(x) if isinstance(x, list) else x) for x in rest)
+
+
+def asked(q):
+    """The questions to the oracle: a list of fields each."""
+    op, kind, *rest = q
+    b = rest[0].hex()
+    if op == "h":
+        return [{"op": "header", "bytes": b}]
+    if op == "n":
+        return [{"op": "name", "name": b}]
+    if op in "ic":
+        return [{"op": "iter", "bytes": b, "kind": kind}]
+    if op == "s":
+        # Beyond the end the Rust panics, and document 01 takes the end.
+        return [{"op": "record_start", "bytes": b, "at": min(rest[1], len(rest[0]))}]
+    if op == "f":
+        return [{"op": o, "bytes": b, "name": rest[1].hex(), "kind": kind} for o in ("find", "search")]
+    if op == "p":
+        return [{"op": "iter_prefixed", "bytes": b, "prefix": rest[1].hex(), "kind": kind}, {"op": "search", "bytes": b, "name": rest[1].hex(), "kind": kind}]
+    if op == "m":
+        edits = [[e[0]] + [x.hex() for x in e[1:]] for e in rest[1]]
+        return [{"op": "merge", "old": b, "edits": edits, "kind": kind}, {"op": "iter", "bytes": b, "kind": kind}]
+    if op == "l":
+        return [{"op": "loose", "contents": b, "kind": kind}]
+    if op == "a":
+        return [{"op": "iter", "bytes": b, "kind": kind}, {"op": "name", "name": rest[1].hex()}]
+    raise ValueError(op)
+
+
+class Odd(Exception):
+    """The Rust's answer has no place in the form: a finding."""
+
+
+def need(fact, what):
+    if not fact:
+        raise Odd(what)
+
+
+def record_at(b, kind, at, item):
+    """A record of the Rust at a place: its parts' places and the place behind. The Rust hands out bytes; here they are found again."""
+    n = DIGITS[kind]
+    name = bytes.fromhex(item["name"])
+    need(item["at"] == at and b[at:at + n].hex() == item["target"] and b[at + n:at + n + 1] == b" ", "id of a record")
+    need(b.startswith(name, at + n + 1), "name of a record")
+    end = b.index(b"\n", at + n + 1 + len(name)) + 1
+    need(b[at + n + 1 + len(name):end] in (b"\n", b"\r\n"), "line end of a record")
+    peeled = 0
+    if item["peeled"] is not None:
+        need(b[end:end + 1] == b"^" and b[end + 1:end + 1 + n].hex() == item["peeled"], "peeled id of a record")
+        peeled = end + 1
+        end = b.index(b"\n", peeled + n) + 1
+        need(b[peeled + n:end] in (b"\n", b"\r\n"), "line end of a peeled id")
+    return at, at + n + 1, len(name), peeled, end
+
+
+def items_of(b, kind, place, number, items):
+    """[('r', start, name_at, name_len, peeled_at, next) or ('e', start, number, text_len, next)]; each begins where the one before ends."""
+    out = []
+    for i in items:
+        if "err" in i:
+            lf = b.find(b"\n", place)
+            end = len(b) if lf < 0 else lf + 1
+            need(i["err"] == number and b[place:end - 1].hex() == i["line"], "an error's number or text")
+            out.append(("e", place, number, end - 1 - place, end))
+        else:
+            out.append(("r",) + record_at(b, kind, place, i))
+        place = out[-1][-1]
+        number += 1
+    return out
+
+
+def behind_header(b, at=0):
+    return b.index(b"\n", at) + 1 if b[at:at + 1] == b"#" else at
+
+
+def first_line(b, line, at=0):
+    need(b[at:].hex().startswith(line), "number 2's text")
+    return len(line) // 2
+
+
+def file_items(b, kind, a):
+    """(place, number, items) of a whole file, or the length of number 2's text."""
+    if a["r"] == "header":
+        return first_line(b, a["line"])
+    place = behind_header(b)
+    number = 2 if place else 1
+    out = items_of(b, kind, place, number, a["items"])
+    need((out[-1][-1] if out else place) == len(b), "bytes behind the last item")
+    return place, number, out
+
+
+def spelled(b, place, number, items):
+    return f"0 {place} {number}" + "".join(" " + " ".join(map(str, i)) for i in items) + f" . {len(b)} {number + len(items)}"
+
+
+def check(b, kind, a):
+    f = file_items(b, kind, a)
+    if isinstance(f, int):
+        return f"2 {f}"
+    last = b""
+    for i in f[2]:
+        if i[0] == "e":
+            return f"4 {i[1]}"
+        name = b[i[2]:i[2] + i[3]]
+        if not last < name:
+            return f"6 {i[1]}"
+        last = name
+    return f"0 {len(f[2])}"
+
+
+def named(b, items, name):
+    for i in items:
+        if i[0] == "r" and b[i[2]:i[2] + i[3]] == name:
+            return f"0 {i[1]} {i[2]} {i[3]} {i[4]}"
+    return None
+
+
+def index_text(edits):
+    places = edit_places(edits)
+    order = sorted(range(len(edits)), key=lambda i: edits[i][1])
+    return " x" + "".join(f" {places[i]}" for i in order)
+
+
+def expected(q, answers):
+    op, kind, *rest = q
+    b = rest[0]
+    a = answers[0]
+    for x in answers:
+        need(x["r"] not in ("panics", "bad_question"), x["r"])
+    if op == "h":
+        if a["r"] == "err":
+            return f"2 {first_line(b, a['line'])}"
+        return f"0 {['Unspecified', 'Partial', 'Fully'].index(a['peeled'])} {int(a['sorted'])} {a['behind']}"
+    if op == "n":
+        return "0" if a["valid"] else "3"
+    if op == "i":
+        f = file_items(b, kind, a)
+        return f"2 {f}" if isinstance(f, int) else spelled(b, *f)
+    if op == "s":
+        return str(a["at"])
+    if op == "c":
+        return check(b, kind, a)
+    if op == "f":
+        if a["r"] == "found":
+            r = record_at(b, kind, a["record"]["at"], a["record"])
+            need(answers[1] == {"r": "hit", "at": r[0]}, "search and find")
+            return f"0 {r[0]} {r[1]} {r[2]} {r[3]}"
+        if a["r"] == "parse":
+            return f"4 {answers[1]['at'] if answers[1]['r'] == 'hit' else 0}"
+        return {"notfound": "5", "name": "3"}[a["r"]]
+    if op == "p":
+        at = answers[1]["at"]
+        if a["r"] == "header":
+            return f"2 {at} {first_line(b, a['line'], at)}"
+        place = behind_header(b, at)
+        number = 1 if place == at else 2
+        return spelled(b, place, number, items_of(b, kind, place, number, a["items"]))
+    if op == "m":
+        if a["r"] == "name":
+            return f"8 {edit_places(rest[1])[a['edit']]} x"
+        ix = index_text(rest[1])
+        if a["r"] == "open_header":
+            return check(b, kind, answers[1]) + ix
+        if a["r"] in ("iteration", "open_iter"):
+            # The number counts items, from 1 behind the header; a file that is sorted on opening is told its item's number or its line in another form.
+            said = check(b, kind, answers[1])
+            bad = [i for i in file_items(b, kind, answers[1])[2] if i[0] == "e"][0]
+            need(a["error"]["line"] == b[bad[1]:bad[1] + bad[3]].hex(), "the line of a merge's error")
+            return said + ix
+        if a["r"] == "written":
+            return f"0 {len(a['bytes']) // 2} {a['bytes']}" + ix
+        return {"nothing": "13", "removed": "14"}[a["r"]] + ix
+    if op == "l":
+        n = DIGITS[kind]
+        if a["r"] == "id":
+            need(b[:n].lower().decode() == a["id"], "a loose id")
+            return f"0 1 0 {n}"
+        if a["r"] == "symbolic":
+            at = 5 + len(b[5:]) - len(b[5:].lstrip(b" "))
+            need(b[at:].hex().startswith(a["name"]), "a symbolic target")
+            return f"0 2 {at} {len(a['name']) // 2}"
+        return {"parse": "15", "name": "16"}[a["r"]]
+    if op == "a":
+        if not answers[1]["valid"]:
+            return "3"
+        f = file_items(b, kind, a)
+        if isinstance(f, int):
+            return f"2 {f}"
+        said = check(b, kind, a)
+        return named(b, f[2], rest[1]) or ("5" if said[0] == "0" else said)
+    raise ValueError(op)
+
+
+# ---- What lies outside the shared domain. Each rule stands for a row of docs/DIFFERENCES.md.
+
+ONE_LEVEL = re.compile(rb"[A-Z_]+")
+
+
+def odd_name(name):
+    if ONE_LEVEL.fullmatch(name):
+        return "a name of one level"
+    return "an inner component ends in .lock" if b".lock/" in name else None
+
+
+def odd_file(b, kind):
+    """A line whose name is judged otherwise. Records begin at line starts alone, so lines are enough."""
+    if b".lock/" not in b and not re.search(rb" [A-Z_]+\r?\n", b):
+        return None
+    n = DIGITS[kind]
+    for line in b.split(b"\n"):
+        if line[n:n + 1] == b" ":
+            why = odd_name(line[n + 1:].removesuffix(b"\r"))
+            if why:
+                return why
+    return None
+
+
+def ordered_by_shape(b, kind):
+    """Whether every probe meets a shape that reads, and the names rise: then every search gives the same answer. Other bytes are unchecked bytes, on
+    which the two sides probe other places."""
+    n = DIGITS[kind]
+    if b and not b.endswith(b"\n"):
+        return False
+    last, may_be_peeled = b"", False
+    for line in b.split(b"\n")[:-1]:
+        if line.startswith(b"^"):
+            if not may_be_peeled:
+                return False
+            may_be_peeled = False
+            continue
+        name = line[n + 1:].removesuffix(b"\r")
+        if line[n:n + 1] != b" " or b"\r" in name or not last < name:
+            return False
+        last, may_be_peeled = name, True
+    return True
+
+
+def outside(q, answers):
+    """Why a question is not compared, or None."""
+    op, kind, *rest = q
+    b = rest[0]
+    if op == "n":
+        return odd_name(b)
+    if op == "l":
+        m = re.match(rb"ref:  *([^\0\r\n]*)", b)
+        return odd_name(m.group(1)) if m else None
+    if op in "hs":
+        return None
+    why = odd_file(b, kind)
+    if why:
+        return why
+    if op in "fa" and odd_name(rest[1]):
+        return odd_name(rest[1])
+    if op in "fp" and not ordered_by_shape(b, kind):
+        return "unchecked bytes"
+    if op == "m":
+        edits = rest[1]
+        for e in edits:
+            if odd_name(e[1]):
+                return odd_name(e[1])
+            if len(e[1]) > 4096:
+                return "an edit name over 4,096 bytes"
+        if len({e[1] for e in edits}) < len(edits):
+            return "two edits of one name"
+        said = check(b, kind, answers[1])
+        if said[0] == "6":
+            return "names out of order or repeated"
+        if said[0] == "4" and not any(e[0] == "u" for e in edits):
+            return "a damaged file and no update"
+        if b[:1] == b"#" and said[0] == "4" and b[behind_header(b):][:1] == b"#":
+            return "a second header line"
+        if said[0] == "0" and any(e[0] == "d" and (not e[1].startswith(b"refs/") or e[1].startswith(b"refs/worktree/")) for e in edits):
+            return "a delete looked up as a partial name"
+    return None

@@ -1,0 +1,127 @@
+#!/usr/bin/env python3
+"""compare.py [COUNT [SEED]]: feeds the library and the Rust the same inputs, every short one and COUNT random ones an operation within the domain
+that both share, and compares every answer. compare/run.sh builds both sides and starts it. OURS and ORACLE: the two programs."""
+import collections, itertools, json, os, random, subprocess, sys, tempfile
+import inputs, model
+from answers import Odd, asked, expected, ours_line, outside, edit_bytes
+
+BATCH = 20000
+# What, every short input, random inputs.
+OPERATIONS = [
+    ("header", inputs.short_headers(), inputs.headers), ("name", inputs.short_names(), inputs.names),
+    ("iteration", inputs.short_files("i"), inputs.files("i")), ("check", inputs.short_files("c"), inputs.files("c")),
+    ("record start", inputs.short_starts(), inputs.starts), ("lookup", inputs.short_sought("f"), inputs.sought("f")),
+    ("prefix listing", inputs.short_sought("p"), inputs.sought("p")), ("merge", inputs.short_merges(), inputs.merges),
+    ("loose", inputs.short_contents(), inputs.contents), ("ask", inputs.short_sought("a"), inputs.asks),
+]
+
+
+def start(program, lines):
+    given, said = tempfile.TemporaryFile(), tempfile.TemporaryFile()
+    given.write("\n".join(lines).encode() + b"\n")
+    given.seek(0)
+    return subprocess.Popen([program], stdin=given, stdout=said), said
+
+
+def answers(run, count):
+    p, said = run
+    if p.wait() != 0:
+        sys.exit(f"{p.args[0]} failed")
+    said.seek(0)
+    lines = said.read().decode().splitlines()
+    assert len(lines) == count, f"{p.args[0]}: {len(lines)} answers to {count} questions"
+    return lines
+
+
+def both(questions):
+    """(question, what the oracle said, what ours said) of each."""
+    asks = [asked(q) for q in questions]
+    theirs = start(os.environ["ORACLE"], [json.dumps(x) for a in asks for x in a])
+    ours = start(os.environ["OURS"], [ours_line(q) for q in questions])
+    said = map(json.loads, answers(theirs, sum(map(len, asks))))
+    mine = answers(ours, len(questions))
+    return [(q, list(itertools.islice(said, len(a))), m) for q, a, m in zip(questions, asks, mine)]
+
+
+def size(q):
+    return sum(len(edit_bytes(x)) if isinstance(x, list) else len(x) for x in q[2:] if not isinstance(x, int))
+
+
+def tell(q, theirs, mine, raw=None):
+    print(f"   input {q!r:.2000}\n   there {theirs:.2000}\n   here  {mine:.2000}" + (f"\n   oracle {json.dumps(raw):.500}" if raw else ""))
+
+
+class Tally:
+    def __init__(self):
+        self.n, self.wrong, self.least = 0, 0, None
+        self.numbers, self.left = collections.Counter(), collections.Counter()
+
+    def add(self, q, theirs, mine, raw=None):
+        self.n += 1
+        self.numbers["a place" if q[0] == "s" else mine.split(" ", 1)[0]] += 1
+        if theirs != mine:
+            self.wrong += 1
+            if self.least is None or size(q) < size(self.least[0]):
+                self.least = q, theirs, mine, raw
+
+    def report(self, what):
+        """Whether all agree."""
+        by_number = ", ".join(f"{k}: {v}" for k, v in sorted(self.numbers.items(), key=lambda x: (len(x[0]), x[0])))
+        left = ", ".join(f"{v} ({k})" for k, v in self.left.most_common())
+        print(f"{what}: {self.n} compared, {self.wrong} differ\n   answers by number: {by_number}" + (f"\n   outside the shared domain: {left}" if left else ""), flush=True)
+        if self.least:
+            tell(*self.least)
+        return self.wrong == 0
+
+
+def batches(source):
+    while batch := list(itertools.islice(source, BATCH)):
+        yield batch
+
+
+def compare_batch(t, batch):
+    for q, said, mine in both(batch):
+        try:
+            why = outside(q, said)
+            theirs = None if why else expected(q, said)
+        except Odd as odd:
+            why, theirs = None, f"odd: {odd}"
+        if why:
+            t.left[why] += 1
+        else:
+            t.add(q, theirs, mine, said)
+
+
+def compare(what, short, make, count, seed):
+    t = Tally()
+    for batch in batches(short):
+        compare_batch(t, batch)
+    random_ones = make(inputs.Make(random.Random(f"{seed} {what}")))
+    enough = t.n + count
+    while t.n < enough:
+        compare_batch(t, list(itertools.islice(random_ones, min(BATCH, enough - t.n + 500))))
+    return t.report(what)
+
+
+def added(count, seed):
+    """What the port adds to the merge, against the model."""
+    t = Tally()
+    source = itertools.islice(inputs.lists(inputs.Make(random.Random(f"{seed} lists"))), count)
+    for batch in batches(source):
+        mine = answers(start(os.environ["OURS"], [ours_line(q) for q in batch]), len(batch))
+        for q, m in zip(batch, mine):
+            t.add(q, model.merge(*q[1:]), m)
+    return t.report("merge by lists of edits as bytes, against a model of document 01")
+
+
+def main():
+    count = int(sys.argv[1]) if len(sys.argv) > 1 else 100000
+    seed = int(sys.argv[2]) if len(sys.argv) > 2 else 1
+    good = [compare(what, short, make, count, seed) for what, short, make in OPERATIONS] + [added(count, seed)]
+    if not all(good):
+        sys.exit("there are differences")
+    print("no difference")
+
+
+if __name__ == "__main__":
+    main()

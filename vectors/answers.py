@@ -1,0 +1,107 @@
+#!/usr/bin/env python3
+"""answers.py FILE: writes a fixed sample of the oracle's answers, for crates/replay (vectors/README.md says how). ORACLE: the oracle's program."""
+import collections, itertools, json, os, random, subprocess, sys
+
+sys.path.insert(0, os.path.join(os.path.dirname(os.path.abspath(__file__)), "..", "compare"))
+import inputs, model
+from answers import asked, edit_bytes, expected, outside
+
+# Operation, title, every short input, random ones, how many lines of each.
+GROUPS = [
+    ("header", inputs.short_headers(), inputs.headers, 120, 130), ("name", inputs.short_names(), inputs.names, 100, 100),
+    ("iteration", inputs.short_files("i"), inputs.files("i"), 200, 300), ("check", inputs.short_files("c"), inputs.files("c"), 150, 250),
+    ("record start", inputs.short_starts(), inputs.starts, 120, 80), ("lookup", inputs.short_sought("f"), inputs.sought("f"), 100, 250),
+    ("prefix listing", inputs.short_sought("p"), inputs.sought("p"), 100, 150), ("merge", inputs.short_merges(), inputs.merges, 150, 300),
+    ("loose", inputs.short_contents(), inputs.contents, 100, 150), ("ask", inputs.short_sought("a"), inputs.asks, 50, 150),
+]
+SHORT = {ord(" "): "_", ord("\n"): "|"}
+PLAIN = set(range(33, 127)) - set(b"_|%()~")
+
+
+def spelled(b):
+    """Bytes in the file's form: themselves, `_` a space, `|` LF, `%xx` in hex, `(n:u)` n times u; `~` none."""
+    out = []
+    for c, same in itertools.groupby(b):
+        n = len(list(same))
+        one = chr(c) if c in PLAIN else SHORT.get(c, f"%{c:02x}")
+        many = f"({n}:{one})"
+        out.append(many if len(many) < n * len(one) else one * n)
+    return "".join(out) or "~"
+
+
+def line(q, answer):
+    op, kind, *rest = q
+    fields = [str(x) if isinstance(x, int) else spelled(edit_bytes(x) if isinstance(x, list) else x) for x in rest]
+    if op == "m" and answer.startswith("0 "):
+        zero, n, new, more = answer.split(" ", 3)
+        answer = f"0 {n} {spelled(bytes.fromhex(new))} {more}"
+    return f"{op} {kind} {' '.join(fields)} = {answer}"
+
+
+def oracle(questions):
+    asks = [asked(q) for q in questions]
+    out = subprocess.run([os.environ["ORACLE"]], input="\n".join(json.dumps(x) for a in asks for x in a), check=True, capture_output=True, text=True).stdout
+    said = map(json.loads, out.splitlines())
+    return [list(itertools.islice(said, len(a))) for a in asks]
+
+
+def chosen(rnd, questions, count, answer_of):
+    """So many, and of each number of answer a fair share."""
+    by = collections.defaultdict(list)
+    for q, a in answer_of(questions):
+        text = line(q, a)
+        # The program has room for so much.
+        if len(text) < 700 and all(x <= 60000 for x in q[2:] if isinstance(x, int) and q[0] == "m"):
+            by[a.split(" ")[0] if q[0] != "s" else "", min(a.count(" e "), 2), min(a.count(" r "), 2)].append(text)
+    out = []
+    for k in by:
+        rnd.shuffle(by[k])
+    while len(out) < count and any(by.values()):
+        for k in sorted(by):
+            if by[k] and len(out) < count:
+                out.append(by[k].pop())
+    return list(dict.fromkeys(out))
+
+
+def theirs(questions):
+    return [(q, expected(q, said)) for q, said in zip(questions, oracle(questions)) if not outside(q, said)]
+
+
+def long_ones():
+    """Names and edits around the limits."""
+    for n in (127, 128, 129, 255, 256, 4095, 4096, 4097):
+        name = b"refs/" + b"x" * (n - 5)
+        yield "f", 1, b"1" * 40 + b" " + name + b"\n", name
+        yield "i", 2, b"1" * 64 + b" " + name + b"\r\n^" + b"2" * 64 + b"\n"
+        if n <= 4096:
+            yield "m", 1, b"1" * 40 + b" " + name + b"\n", [("d", name), ("u", name[:-1] + b"y", b"\x77" * 20)], 2, 50000
+            yield "m", 2, b"", [("u", name, b"\x55" * 32, b"\x66" * 32)], 1, 50000
+
+
+def main():
+    out = [
+        "# What gix-ref 0.67.1 answers, by the oracle; made by vectors/answers.py. vectors/README.md says what a line means.",
+    ]
+    for what, short, make, n_short, n_random in GROUPS:
+        rnd = random.Random(f"vectors {what}")
+        every = list(short)
+        some = rnd.sample(every, min(len(every), 4000))
+        out.append(f"# {what}")
+        out += chosen(rnd, some, n_short, theirs)
+        out += chosen(rnd, list(itertools.islice(make(inputs.Make(rnd)), 6000)), n_random, theirs)
+    out.append("# names and edits around the limits")
+    out += [line(q, a) for q, a in theirs(list(long_ones()))]
+    theirs_count = sum(not x.startswith("#") for x in out)
+    out.append("# added by the port, so by a model of document 01 (compare/model.py) and not by the Rust: edit lists as bytes, 7 to 12, the index")
+    rnd = random.Random("vectors lists")
+    of_model = lambda questions: [(q, model.merge(*q[1:])) for q in questions]
+    out += chosen(rnd, list(itertools.islice(inputs.lists(inputs.Make(rnd)), 6000)), 300, of_model)
+    out = list(dict.fromkeys(out))
+    with open(sys.argv[1], "w") as f:
+        f.write("\n".join(out) + "\n")
+    counts = collections.Counter(x[0] for x in out if x[0] != "#")
+    print(f"{sum(counts.values())} answers, of them by the oracle {theirs_count}: " + ", ".join(f"{k} {v}" for k, v in sorted(counts.items())))
+
+
+if __name__ == "__main__":
+    main()
