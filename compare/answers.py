@@ -1,8 +1,7 @@
 """What the Rust answers, in the one-line form that compare/ours.c and the vectors use (compare/README.md), and which inputs lie outside the
 domain that both sides share. A question is (operation, kind, lent bytes and numbers ..); a merge's edits are a list of tuples."""
 import re
-
-DIGITS = {1: 40, 2: 64}
+from model import DIGITS, valid
 
 
 def hexed(b):
@@ -203,6 +202,7 @@ def expected(q, answers):
             return said + ix
         if a["r"] == "written":
             return f"0 {len(a['bytes']) // 2} {a['bytes']}" + ix
+        need(a["r"] in ("nothing", "removed"), a["r"])
         return {"nothing": "13", "removed": "14"}[a["r"]] + ix
     if op == "l":
         n = DIGITS[kind]
@@ -233,7 +233,7 @@ ONE_LEVEL = re.compile(rb"[A-Z_]+")
 def odd_name(name):
     if ONE_LEVEL.fullmatch(name):
         return "a name of one level"
-    return "an inner component ends in .lock" if b".lock/" in name else None
+    return "an inner component ends in .lock" if b".lock/" in name and valid(name) else None
 
 
 def odd_file(b, kind):

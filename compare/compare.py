@@ -1,6 +1,7 @@
 #!/usr/bin/env python3
 """compare.py [COUNT [SEED]]: feeds the library and the Rust the same inputs, every short one and COUNT random ones an operation within the domain
-that both share, and compares every answer. compare/run.sh builds both sides and starts it. OURS and ORACLE: the two programs."""
+that both share, and compares every answer. compare/run.sh builds both sides and starts it. OURS and ORACLE: the two programs. SHOW: if
+set, the smallest input is told for which a rule that leaves inputs out has to."""
 import collections, itertools, json, os, random, subprocess, sys, tempfile
 import inputs, model
 from answers import Odd, asked, expected, ours_line, outside, edit_bytes
@@ -54,7 +55,9 @@ def tell(q, theirs, mine, raw=None):
 class Tally:
     def __init__(self):
         self.n, self.wrong, self.least = 0, 0, None
-        self.numbers, self.left = collections.Counter(), collections.Counter()
+        self.numbers = collections.Counter()
+        # Of each rule: inputs left out, how many of them differ, the smallest that does.
+        self.left = {}
 
     def add(self, q, theirs, mine, raw=None):
         self.n += 1
@@ -64,11 +67,23 @@ class Tally:
             if self.least is None or size(q) < size(self.least[0]):
                 self.least = q, theirs, mine, raw
 
+    def leave(self, why, q, theirs, mine):
+        n, differ, least = self.left.get(why, (0, 0, None))
+        if theirs != mine:
+            differ += 1
+            if least is None or size(q) < size(least[0]):
+                least = q, theirs, mine
+        self.left[why] = n + 1, differ, least
+
     def report(self, what):
         """Whether all agree."""
         by_number = ", ".join(f"{k}: {v}" for k, v in sorted(self.numbers.items(), key=lambda x: (len(x[0]), x[0])))
-        left = ", ".join(f"{v} ({k})" for k, v in self.left.most_common())
-        print(f"{what}: {self.n} compared, {self.wrong} differ\n   answers by number: {by_number}" + (f"\n   outside the shared domain: {left}" if left else ""), flush=True)
+        print(f"{what}: {self.n} compared, {self.wrong} differ\n   answers by number: {by_number}")
+        for why, (n, differ, least) in sorted(self.left.items(), key=lambda x: -x[1][0]):
+            print(f"   outside the shared domain: {n}, of them {differ} differ: {why}")
+            if least and "SHOW" in os.environ:
+                tell(*least)
+        sys.stdout.flush()
         if self.least:
             tell(*self.least)
         return self.wrong == 0
@@ -81,13 +96,13 @@ def batches(source):
 
 def compare_batch(t, batch):
     for q, said, mine in both(batch):
+        why = outside(q, said)
         try:
-            why = outside(q, said)
-            theirs = None if why else expected(q, said)
+            theirs = expected(q, said)
         except Odd as odd:
-            why, theirs = None, f"odd: {odd}"
+            theirs = f"odd: {odd}"
         if why:
-            t.left[why] += 1
+            t.leave(why, q, theirs, mine)
         else:
             t.add(q, theirs, mine, said)
 
