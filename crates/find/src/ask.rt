@@ -6,6 +6,7 @@ use decode::header::Opened;
 use decode::reference::Fault;
 use decode::reference::Reading;
 use decode::reference::Record;
+use iter::check::Turn;
 use parse::limit::Admission;
 
 pub enum Told {
@@ -66,32 +67,28 @@ pub(crate) fn ask_body(t: &[u8; 256], n: usize, file: &[u8], body: usize, name: 
 {
     let mut place = body;
     let mut last = &file[0..0];
-    while place < file.len() {
-        let rest = &file[place..];
-        match decode::reference::reference(t, rest, n) {
-            Reading::Bad(fault) => {
-                return verdict_unless(
-                    first_named(t, n, file, place, name),
-                    Told::BadRecord { place, fault },
-                );
+    loop {
+        match iter::check::take_turn(t, n, file, place, last) {
+            Turn::End => {
+                return Told::Absent;
             }
-            Reading::Good(found) => {
-                let here = decode::reference::name_of(rest, n, found);
-                if parse::prefix::is_same(here, name) {
+            Turn::Bad(fault) => {
+                let sought = first_named(t, n, file, place, name);
+                return verdict_unless(sought, Told::BadRecord { place, fault });
+            }
+            Turn::Unsorted => {
+                let sought = first_named(t, n, file, place, name);
+                return verdict_unless(sought, Told::Unsorted(place));
+            }
+            Turn::On(found) => {
+                last = decode::reference::name_of(&file[place..], n, found);
+                if parse::prefix::is_same(last, name) {
                     return Told::Charted { place, found };
                 }
-                if !parse::order::is_less(last, here) {
-                    return verdict_unless(
-                        first_named(t, n, file, place, name),
-                        Told::Unsorted(place),
-                    );
-                }
-                last = here;
                 place += found.size;
             }
         }
     }
-    Told::Absent
 }
 
 // The first record of a name from a place on, whatever stands between.

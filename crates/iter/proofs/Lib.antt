@@ -1,5 +1,6 @@
 pub mod Begins
 pub mod CheckMeans
+pub mod CheckTurns
 pub mod Cuts
 pub mod Damage
 pub mod Each

@@ -1,27 +1,21 @@
--- One turn of a loop over items: the item at a place, and what the check comes to there. For any classes.
-use mathlib.Core.Path.{_≡_, refl, sym, ap, _∙_}
-use mathlib.Core.Bool.{true, false}
-use mathlib.Core.List.{List, [], _∷_}
-use Prim.Native.Nat.{ℕ, suc, _+_, _-_, _≤_, _<_}
+-- One turn of a loop over items: the item at a place. For any classes.
+use mathlib.Core.Path.{_≡_, refl, ap, _∙_}
+use mathlib.Core.List.{List, _∷_}
+use Prim.Native.Nat.{ℕ, _+_, _≤_, _<_}
 use native.Mathlib.Omega.{arith}
-use lib.ListN.{length, take, drop, length-drop, drop-of-length-le}
+use lib.ListN.{length, take, drop, length-drop}
 use lib.Seq.{drop-drop, length-take-le}
-use Rattle.parse.specs.Choice.{if}
 use Rattle.parse.specs.Class.{Classes}
 use Rattle.parse.specs.Line.{lineLen}
-use Rattle.parse.specs.Order.{smaller}
 use Rattle.parse.proofs.Slices.{part-of-front}
 use Rattle.decode.specs.declared.reference.Fault.{Fault}
 use Rattle.decode.specs.declared.reference.Record.{Record}
 use Rattle.decode.specs.declared.reference.Reading.{Reading}
 use Rattle.decode.specs.declared.reference.Reading.the-variants.{Good, Bad}
 use Rattle.decode.specs.Record.{recordOf}
-use Rattle.decode.proofs.Records.{Fits, fits}
-use Rattle.iter.specs.declared.check.Verdict.{Verdict}
-use Rattle.iter.specs.declared.check.Verdict.the-variants.{Clean, BadRecord, Unsorted}
+use Rattle.decode.proofs.Records.{fits}
 use Rattle.iter.specs.Items.{Item, sizeOf, itemOf, items, nameIn, nameOf}
-use Rattle.iter.specs.Check.{orElse, judge}
-use Rattle.iter.proofs.Items.{size-good, size-le, items-nil, items-step}
+use Rattle.iter.proofs.Items.{size-good, size-le, items-step}
 
 -- the name of the item at the front is that part of all the bytes
 pub item-name : (byte : Classes) (n : ℕ) (s : List ℕ) (r : Record) → recordOf byte n s ≡ Good r
@@ -70,28 +64,3 @@ module _ (byte : Classes) (n : ℕ) (file : List ℕ) (place : ℕ) where
     next-inside inside =
         let f = fits byte n (drop place file) r e in
         (omega (arith, f .holds), omega (arith, f .inside, length-drop place file))
-
--- ---- the check
-
-module _ (byte : Classes) (n : ℕ) (file : List ℕ) (place count : ℕ) (last : List ℕ) where
-  pub turn-end : length file ≤ place → judge n place count last (items byte n (drop place file)) ≡ Clean count
-  turn-end h = rw (drop-of-length-le file h, items-nil byte n)
-
-  module _ (inside : place < length file) where
-    pub turn-bad : (f : Fault) → recordOf byte n (drop place file) ≡ Bad f → judge n place count last (items byte n (drop place file)) ≡ BadRecord place f
-    turn-bad f e = let h = head-bad byte n file place inside f e in rw (h .all, h .is)
-
-    module _ (r : Record) (e : recordOf byte n (drop place file) ≡ Good r) where
-      abbrev name : List ℕ
-      name = take (r .name) (drop (n + 1) (drop place file))
-
-      turn : judge n place count last (items byte n (drop place file))
-          ≡ if (smaller last name) (judge n (place + r .size) (suc count) name (items byte n (drop (place + r .size) file))) (Unsorted place)
-      turn = let h = head-good byte n file place r e inside in rw (h .all, h .is, h .name, h .long)
-
-      pub turn-unsorted : smaller last name ≡ false → judge n place count last (items byte n (drop place file)) ≡ Unsorted place
-      turn-unsorted l = turn ∙ rw l
-
-      pub turn-good : smaller last name ≡ true
-          → judge n place count last (items byte n (drop place file)) ≡ judge n (place + r .size) (suc count) name (items byte n (drop (place + r .size) file))
-      turn-good l = turn ∙ rw l

@@ -1,6 +1,7 @@
 -- The check of a whole file.
 use mathlib.Core.List.{List, [], _∷_}
 use Prim.Native.Nat.{ℕ, suc, _+_}
+use lib.Dec.{ltb}
 use lib.ListN.{length, drop}
 use Rattle.parse.specs.Choice.{if}
 use Rattle.parse.specs.Class.{Classes, paper}
@@ -11,12 +12,14 @@ use Rattle.decode.specs.declared.header.Opened.the-variants.{Header, Unreadable
 use Rattle.decode.specs.declared.reference.Reading.{Reading}
 use Rattle.decode.specs.declared.reference.Reading.the-variants.{Good, Bad}
 use Rattle.decode.specs.Header.{headerOf}
-use Rattle.decode.specs.Record.{faultNumber}
+use Rattle.decode.specs.Record.{recordOf, faultNumber}
 use Rattle.iter.specs.declared.check.Verdict.{Verdict}
 use Rattle.iter.specs.declared.check.Verdict.the-variants.{Clean, BadHeader, BadRecord, Unsorted}
 use Rattle.iter.specs.declared.check.CheckAnswer.{CheckAnswer}
 use Rattle.iter.specs.declared.check.CheckAnswer.the-variants.{Done, UnknownKind, TooLarge}
-use Rattle.iter.specs.Items.{Item, items, nameOf}
+use Rattle.iter.specs.declared.check.Turn.{Turn}
+use Rattle.iter.specs.declared.check.Turn.the-variants as turn
+use Rattle.iter.specs.Items.{Item, items, nameIn, nameOf}
 
 -- what an item comes to: an error is answered with its place, a record goes by its name
 abbrev pub orElse : Reading → ℕ → Verdict → Verdict
@@ -57,3 +60,13 @@ checkNumber (Done (BadRecord place f)) = faultNumber f
 checkNumber (Done (Unsorted place)) = 6
 checkNumber UnknownKind = 1
 checkNumber TooLarge = 17
+
+-- ---- one turn of a pass that checks: what stands at a place, behind a record of the name last
+
+abbrev pub turnBy : ℕ → List ℕ → List ℕ → Reading → Turn
+turnBy n last rest (Good r) = if (smaller last (nameIn n (Good r) rest)) (turn.On r) turn.Unsorted
+turnBy n last rest (Bad f) = turn.Bad f
+
+unfoldable pub turnOf : Classes → ℕ → List ℕ → ℕ → List ℕ → Turn
+turnOf byte n file place last =
+    if (ltb place (length file)) (turnBy n last (drop place file) (recordOf byte n (drop place file))) turn.End

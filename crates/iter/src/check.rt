@@ -1,10 +1,11 @@
 // The check of a whole file: every item a record, every name greater than the one before.
 ghost use mathlib.Core.Path.{_≡_};
 ghost use Rattle.parse.specs.Class.{classesOf};
-ghost use Rattle.iter.specs.Check.{checkOf, checkAnswer, judgeBody};
+ghost use Rattle.iter.specs.Check.{checkOf, checkAnswer, judgeBody, turnOf};
 use decode::header::Opened;
 use decode::reference::Fault;
 use decode::reference::Reading;
+use decode::reference::Record;
 use parse::limit::Admission;
 
 pub enum Verdict {
@@ -54,22 +55,53 @@ pub(crate) fn check_body(t: &[u8; 256], n: usize, file: &[u8], body: usize) -> V
     let mut place = body;
     let mut count = 0;
     let mut last = &file[0..0];
-    while place < file.len() {
-        let rest = &file[place..];
-        match decode::reference::reference(t, rest, n) {
-            Reading::Bad(fault) => {
+    loop {
+        match take_turn(t, n, file, place, last) {
+            Turn::End => {
+                return Verdict::Clean(count);
+            }
+            Turn::Bad(fault) => {
                 return Verdict::BadRecord { place, fault };
             }
-            Reading::Good(found) => {
-                let name = decode::reference::name_of(rest, n, found);
-                if !parse::order::is_less(last, name) {
-                    return Verdict::Unsorted(place);
-                }
-                last = name;
+            Turn::Unsorted => {
+                return Verdict::Unsorted(place);
+            }
+            Turn::On(found) => {
+                last = decode::reference::name_of(&file[place..], n, found);
                 count += 1;
                 place += found.size;
             }
         }
     }
-    Verdict::Clean(count)
+}
+
+// What a pass that checks meets at a place.
+pub enum Turn {
+    // The end of the bytes.
+    End,
+    // A record whose name is greater than the one before.
+    On(Record),
+    // A record whose name is not.
+    Unsorted,
+    // No record: which part of it can't be read.
+    Bad(Fault),
+}
+
+// One turn of every pass that checks: what stands at a place, behind a record of the name last.
+pub fn take_turn(t: &[u8; 256], n: usize, file: &[u8], place: usize, last: &[u8]) -> Turn
+    ensures { λ r. ⌜ r ≡ turnOf (classesOf (now (t .entry))) n (now (file .entry)) place (now (last .entry)) ⌝ }
+{
+    if file.len() <= place {
+        return Turn::End;
+    }
+    let rest = &file[place..];
+    match decode::reference::reference(t, rest, n) {
+        Reading::Bad(fault) => Turn::Bad(fault),
+        Reading::Good(found) => {
+            if !parse::order::is_less(last, decode::reference::name_of(rest, n, found)) {
+                return Turn::Unsorted;
+            }
+            Turn::On(found)
+        }
+    }
 }

@@ -9,7 +9,7 @@ ghost use Rattle.iter.specs.Check.{judgeBody};
 ghost use Rattle.iter.specs.Items.{items};
 ghost use Rattle.put.specs.Put.{over};
 ghost use Rattle.merge.specs.Runs.{runsOf, settles, atEnd, marksOf, isStill};
-use decode::reference::Reading;
+use iter::check::Turn;
 use iter::check::Verdict;
 use parse::order::Order;
 
@@ -32,27 +32,27 @@ pub(crate) fn survey(
     let mut count = 0;
     let mut last = &file[0..0];
     let mut j = 0;
-    while place < file.len() {
-        let rest = &file[place..];
-        match decode::reference::reference(t, rest, n) {
-            Reading::Bad(fault) => {
+    loop {
+        match iter::check::take_turn(t, n, file, place, last) {
+            Turn::End => {
+                settle_rest(index, j, place, marks);
+                return Verdict::Clean(count);
+            }
+            Turn::Bad(fault) => {
                 return Verdict::BadRecord { place, fault };
             }
-            Reading::Good(found) => {
-                let name = decode::reference::name_of(rest, n, found);
-                if !parse::order::is_less(last, name) {
-                    return Verdict::Unsorted(place);
-                }
+            Turn::Unsorted => {
+                return Verdict::Unsorted(place);
+            }
+            Turn::On(found) => {
+                last = decode::reference::name_of(&file[place..], n, found);
                 let next = place + found.size;
-                j = settle(list, index, j, name, place, next, marks);
-                last = name;
+                j = settle(list, index, j, last, place, next, marks);
                 count += 1;
                 place = next;
             }
         }
     }
-    settle_rest(index, j, place, marks);
-    Verdict::Clean(count)
 }
 
 // The edits from j on that a record settles get their runs; gives the number of the first that it does not.

@@ -4,17 +4,18 @@ use mathlib.Core.List.{List}
 use Prim.Native.Nat.{ℕ, suc, _-_}
 use native.Mathlib.Omega.{arith}
 use lib.ListN.{length}
-use borrow.Author.Tests.{not-true, not-false}
 use Rattle.parse.specs.Class.{classesOf}
-use Rattle.parse.specs.Order.{smaller}
 use Rattle.parse.specs.Prefix.{same}
-use Rattle.decode.specs.declared.reference.Reading.{Reading}
-use Rattle.decode.specs.declared.reference.Reading.the-variants.{Good}
+use Rattle.decode.specs.declared.reference.Record.{Record}
+use Rattle.iter.specs.declared.check.Turn.{Turn}
+use Rattle.iter.specs.declared.check.Turn.the-variants.{On}
 use Rattle.iter.specs.Check.{judgeBody}
-use Rattle.find.specs.declared.ask.Told.the-variants.{BadRecord, Unsorted}
-use Rattle.find.specs.Ask.{orVerdict, askBody}
-use Rattle.iter.proofs.ItemRead.{Reads, reads, told, goes-on, named, named-is}
-use Rattle.find.proofs.Seeking.{askFrom, ask-end, ask-bad, ask-found, ask-unsorted, ask-on}
+use Rattle.find.specs.declared.ask.Sought.{Sought}
+use Rattle.find.specs.declared.ask.Told.{Told}
+use Rattle.find.specs.Ask.{soughtFrom, orVerdict, unlessFound, askBody}
+use Rattle.iter.proofs.ItemRead.{goes-on, named, named-is}
+use Rattle.iter.proofs.CheckTurns.{Spot, Turned, turned, judgedAfter}
+use Rattle.find.proofs.Seeking.{askFrom, ask-turn, ask-end, ask-found, ask-on}
 use borrow.Author.Needs.{needs}
 use Rattle.find.proofs.ask.ask_body.Statement.{statement}
 use Rattle.find.proofs.ask.ask_body.Tie as tie
@@ -24,6 +25,61 @@ Inv-loop t n file body name place₀ last₀ place last = (count : ℕ) × (askF
 
 abbrev μ-loop : tie.MeasureT-loop
 μ-loop t n file body name place₀ last₀ place last = length file - place
+
+-- ---- what a turn tells, and what the whole then comes to
+
+module _ (k : tie.After-take-turn Inv-loop μ-loop) where
+  abbrev start : tie.Start Inv-loop μ-loop
+  start = k .before .before .before .before .before
+
+  abbrev here : Spot
+  here =
+      let l = k .before in
+      let a = start .args in
+      record { byte = classesOf (a .t .now); n = a .n; file = a .file .now; place = l .loop .place; last = l .loop .last .now }
+
+  abbrev name : List ℕ
+  name = start .args .name .now
+
+  abbrev count : ℕ
+  count = k .before .loop .inv .0
+
+  tells : (w : Turn) → k .take-turn .result ≡ w → Turned here w
+  tells w = turned here _ w (k .take-turn .ensures)
+
+  abbrev Whole : Told → Type 0
+  Whole told = told ≡ askBody (here .byte) (here .n) (here .file) (start .args .body) name
+
+  -- where the check ends, what is sought from the place on decides
+  ended : (w : Turn) → k .take-turn .result ≡ w → (x : Sought) → x ≡ soughtFrom (here .byte) (here .n) (here .file) (here .place) name
+      → Whole (orVerdict x (unlessFound (judgedAfter here count w)))
+  ended w e x sought =
+      ap (λ v. orVerdict v (unlessFound (judgedAfter here count w))) sought ∙ sym (ask-turn here name count w (tells w e)) ∙ k .before .loop .inv .1
+
+-- a record: its turn, and its name as it is cut out
+module _ (f : tie.After-found Inv-loop μ-loop) where
+  abbrev its : tie.After-take-turn Inv-loop μ-loop
+  its = f .before .before
+
+  abbrev it : Record
+  it = f .found .given .0 .0
+
+  on : Turned (here its) (On it)
+  on = tells its (On it) (f .found .given .1)
+
+module _ (m : tie.After-name-of Inv-loop μ-loop) where
+  abbrev found : tie.After-found Inv-loop μ-loop
+  found = m .before .before .before
+
+  name-is : m .name-of .result .now ≡ named (on found .0)
+  name-is = named-is (on found .0) (m .name-of .ensures)
+
+module _ (q : tie.After-is-same Inv-loop μ-loop) where
+  abbrev of-record : tie.After-found Inv-loop μ-loop
+  of-record = found (q .before)
+
+  wanted-is : same (name (its of-record)) (named (on of-record .0)) ≡ q .is-same .result
+  wanted-is = ap (same (name (its of-record))) (sym (name-is (q .before))) ∙ sym (q .is-same .ensures)
 
 sub-last : tie.Need-sub-last Inv-loop μ-loop
 sub-last c = search needs
@@ -38,17 +94,16 @@ loop-holds : tie.Need-loop-holds Inv-loop μ-loop
 unfolding askBody judgeBody
 loop-holds c = (0, refl)
 
-sub-rest : tie.Need-sub-rest Inv-loop μ-loop
-sub-rest c = search needs
+take-turn-requires : tie.Need-take-turn-requires Inv-loop μ-loop
+take-turn-requires c κs = search needs
 
-part-rest-start : tie.Need-part-rest-start Inv-loop μ-loop
-part-rest-start c = search needs
+enum-told : tie.Need-enum-told Inv-loop μ-loop
+enum-told c = search needs
 
-part-rest-end : tie.Need-part-rest-end Inv-loop μ-loop
-part-rest-end c = search needs
-
-reference-requires : tie.Need-reference-requires Inv-loop μ-loop
-reference-requires c κs = search needs
+returns : tie.Need-returns Inv-loop μ-loop
+returns c =
+    let k = c .before .before in
+    sym (ask-end (here k) (name k) (count k) (tells k _ (c .enum-told .given .1))) ∙ k .before .loop .inv .1
 
 enum-known-fault : tie.Need-enum-known-fault Inv-loop μ-loop
 enum-known-fault c = search needs
@@ -59,70 +114,13 @@ first-named-requires c κs = search needs
 verdict-unless-requires : tie.Need-verdict-unless-requires Inv-loop μ-loop
 verdict-unless-requires c κs = search needs
 
--- ---- what is known at each place of a turn
-
--- what is read at the turn's place
-abbrev Read : tie.At-loop Inv-loop μ-loop → Reading → Type 0
-Read l what = let a = l .before .before .before .before .args in Reads (classesOf (a .t .now)) (a .n) (a .file .now) (l .loop .place) what
-
-abbrev name : tie.At-loop Inv-loop μ-loop → List ℕ
-name l = l .before .before .before .before .args .name .now
-
-module _ (k : tie.After-reference Inv-loop μ-loop) where
-  abbrev turn : tie.At-loop Inv-loop μ-loop
-  turn = k .before .before .before
-
-  item : Read turn (k .reference .result)
-  item = reads (search needs) (k .reference .ensures)
-
--- it is a record, and its name is cut out
-module _ (m : tie.After-name-of Inv-loop μ-loop) where
-  abbrev its-turn : tie.At-loop Inv-loop μ-loop
-  its-turn = turn (m .before .before .before .before)
-
-  it : Read its-turn (Good (m .before .before .found .given .0 .0))
-  it = told (item (m .before .before .before .before)) (m .before .before .found .given .1)
-
-  name-is : m .name-of .result .now ≡ named it
-  name-is = named-is it (m .name-of .ensures)
-
--- the name is held against the wanted one
-module _ (q : tie.After-is-same Inv-loop μ-loop) where
-  wanted-is : same (name (its-turn (q .before))) (named (it (q .before))) ≡ q .is-same .result
-  wanted-is = ap (same (name (its-turn (q .before)))) (sym (name-is (q .before))) ∙ sym (q .is-same .ensures)
-
--- and against the one before
-module _ (o : tie.After-is-less Inv-loop μ-loop) where
-  abbrev cut : tie.After-name-of Inv-loop μ-loop
-  cut = o .before .before .before
-
-  order-is : smaller (its-turn cut .loop .last .now) (named (it cut)) ≡ o .is-less .result
-  order-is = ap (smaller (its-turn cut .loop .last .now)) (sym (name-is cut)) ∙ sym (o .is-less .ensures)
-
-returns : tie.Need-returns Inv-loop μ-loop
-returns c =
-    let f = c .before .before .before in
-    let l = turn (f .before .before) in
-    c .verdict-unless .ensures ∙ ap (λ w. orVerdict w (BadRecord (l .loop .place) (f .fault .given .0 .0))) (c .before .first-named .ensures)
-    ∙ sym (ask-bad (name l) (l .loop .inv .0) (l .loop .last .now) (told (item (f .before .before)) (f .fault .given .1))) ∙ l .loop .inv .1
-
-enum-known-found : tie.Need-enum-known-found Inv-loop μ-loop
-enum-known-found c = search needs
-
-name-of-requires : tie.Need-name-of-requires Inv-loop μ-loop
-name-of-requires c κs = search needs
-
-is-same-requires : tie.Need-is-same-requires Inv-loop μ-loop
-is-same-requires c κs = search needs
-
 returns-2 : tie.Need-returns-2 Inv-loop μ-loop
 returns-2 c =
-    let m = c .before .before in
-    let l = its-turn m in
-    sym (ask-found (name l) (l .loop .inv .0) (l .loop .last .now) (it m) (wanted-is (c .before) ∙ c .if1 .taken)) ∙ l .loop .inv .1
+    let f = c .before .before .before in
+    c .verdict-unless .ensures ∙ ended (f .before .before) _ (f .fault .given .1) _ (c .before .first-named .ensures)
 
-is-less-requires : tie.Need-is-less-requires Inv-loop μ-loop
-is-less-requires c κs = search needs
+enum-told-2 : tie.Need-enum-told-2 Inv-loop μ-loop
+enum-told-2 c = search needs
 
 first-named-requires-2 : tie.Need-first-named-requires-2 Inv-loop μ-loop
 first-named-requires-2 c κs = search needs
@@ -132,31 +130,47 @@ verdict-unless-requires-2 c κs = search needs
 
 returns-3 : tie.Need-returns-3 Inv-loop μ-loop
 returns-3 c =
-    let o = c .before .before .before in
-    let l = its-turn (cut o) in
-    c .verdict-unless2 .ensures ∙ ap (λ w. orVerdict w (Unsorted (l .loop .place))) (c .before .first-named2 .ensures)
-    ∙ sym (ask-unsorted (name l) (l .loop .inv .0) (l .loop .last .now) (it (cut o)) (order-is o ∙ not-true _ (c .before .before .if2 .taken))) ∙ l .loop .inv .1
+    let u = c .before .before in
+    c .verdict-unless2 .ensures ∙ ended (u .before .before) _ (u .enum-told2 .given .1) _ (c .before .first-named2 .ensures)
 
-add-place : tie.Need-add-place Inv-loop μ-loop
-add-place c =
-    let m = cut (c .before .before) in
-    omega (arith, goes-on (it m), its-turn m .before .before .before .before .good)
+enum-known-found : tie.Need-enum-known-found Inv-loop μ-loop
+enum-known-found c = search needs
 
-loop-less : tie.Need-loop-less Inv-loop μ-loop
-loop-less c = omega (arith, goes-on (it (cut (c .before .before))))
+sub-name-of : tie.Need-sub-name-of Inv-loop μ-loop
+sub-name-of c = omega (arith, on (c .before) .0 .inside)
 
-loop-again : tie.Need-loop-again Inv-loop μ-loop
-loop-again c =
-    let o = c .before .before in
-    let l = its-turn (cut o) in
-    let on = ask-on (name l) (l .loop .inv .0) (l .loop .last .now) (it (cut o)) (name-is (cut o)) (wanted-is (o .before .before) ∙ o .before .if1 .left) (order-is o ∙ not-false _ (c .before .if2 .left)) in
-    (suc (l .loop .inv .0), sym on ∙ l .loop .inv .1)
+part-name-of-start : tie.Need-part-name-of-start Inv-loop μ-loop
+part-name-of-start c = omega (arith, on (c .before) .0 .inside)
+
+part-name-of-end : tie.Need-part-name-of-end Inv-loop μ-loop
+part-name-of-end c = search needs
+
+name-of-requires : tie.Need-name-of-requires Inv-loop μ-loop
+name-of-requires c κs = search needs
+
+is-same-requires : tie.Need-is-same-requires Inv-loop μ-loop
+is-same-requires c κs = search needs
 
 returns-4 : tie.Need-returns-4 Inv-loop μ-loop
 returns-4 c =
-    let l = c .before in
-    let a = l .before .before .before .before .args in
-    sym (ask-end (classesOf (a .t .now)) (a .n) (a .file .now) (name l) (l .loop .place) (l .loop .inv .0) (l .loop .last .now) (c .loop-test .left)) ∙ l .loop .inv .1
+    let f = of-record (c .before) in
+    let k = its f in
+    sym (ask-found (here k) (name k) (count k) (it f) (on f) (wanted-is (c .before) ∙ c .if1 .taken)) ∙ k .before .loop .inv .1
+
+add-place : tie.Need-add-place Inv-loop μ-loop
+add-place c =
+    let f = of-record (c .before .before) in
+    omega (arith, goes-on (on f .0), start (its f) .good)
+
+loop-less : tie.Need-loop-less Inv-loop μ-loop
+loop-less c = omega (arith, goes-on (on (of-record (c .before .before)) .0))
+
+loop-again : tie.Need-loop-again Inv-loop μ-loop
+loop-again c =
+    let q = c .before .before in
+    let f = of-record q in
+    let k = its f in
+    (suc (count k), sym (ask-on (here k) (name k) (count k) (it f) (on f) _ (name-is (q .before)) (wanted-is q ∙ c .before .if1 .left)) ∙ k .before .loop .inv .1)
 
 pub ask-body-spec : {M : Type 1} → statement M
 ask-body-spec =
@@ -168,23 +182,24 @@ ask-body-spec =
     part-last-start
     part-last-end
     loop-holds
-    sub-rest
-    part-rest-start
-    part-rest-end
-    reference-requires
+    take-turn-requires
+    enum-told
+    returns
     enum-known-fault
     first-named-requires
     verdict-unless-requires
-    returns
-    enum-known-found
-    name-of-requires
-    is-same-requires
     returns-2
-    is-less-requires
+    enum-told-2
     first-named-requires-2
     verdict-unless-requires-2
     returns-3
+    enum-known-found
+    sub-name-of
+    part-name-of-start
+    part-name-of-end
+    name-of-requires
+    is-same-requires
+    returns-4
     add-place
     loop-less
-    loop-again
-    returns-4)
+    loop-again)

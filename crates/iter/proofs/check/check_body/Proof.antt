@@ -1,19 +1,16 @@
 -- `iter::check::check_body` meets its contract: the items from the place reached on, judged after those before, decide the whole.
-use mathlib.Core.Path.{_≡_, refl, sym, ap, _∙_}
-use mathlib.Core.List.{List}
-use Prim.Native.Nat.{ℕ, _-_, _≤_}
+use mathlib.Core.Path.{_≡_, refl, sym, _∙_}
+use Prim.Native.Nat.{_-_, _≤_}
 use native.Mathlib.Numerals.{add-one}
 use native.Mathlib.Omega.{arith}
 use lib.ListN.{length, drop}
-use borrow.Author.Tests.{not-true, not-false}
-use Rattle.parse.specs.Class.{Classes, classesOf}
-use Rattle.parse.specs.Order.{smaller}
-use Rattle.decode.specs.declared.reference.Record.{Record}
-use Rattle.decode.specs.declared.reference.Reading.the-variants.{Good}
+use Rattle.parse.specs.Class.{classesOf}
+use Rattle.iter.specs.declared.check.Turn.{Turn}
+use Rattle.iter.specs.declared.check.Turn.the-variants.{On}
 use Rattle.iter.specs.Items.{items}
 use Rattle.iter.specs.Check.{judge, judgeBody}
-use Rattle.iter.proofs.ItemRead.{Reads, reads, told, goes-on, named, named-is}
-use Rattle.iter.proofs.Turns.{turn-end, turn-bad, turn-unsorted, turn-good}
+use Rattle.iter.proofs.ItemRead.{goes-on, named-is}
+use Rattle.iter.proofs.CheckTurns.{Spot, Turned, turned, judgedAfter, judged}
 use borrow.Author.Needs.{needs}
 use Rattle.iter.proofs.check.check_body.Statement.{statement}
 use Rattle.iter.proofs.check.check_body.Tie as tie
@@ -24,50 +21,20 @@ Inv-loop t n file body place₀ count₀ last₀ place count last = (count ≤ p
 abbrev μ-loop : tie.MeasureT-loop
 μ-loop t n file body place₀ count₀ last₀ place count last = length file - place
 
--- ---- what is known at each place of a turn
+-- what a turn tells, and what the whole then comes to
+module _ (k : tie.After-take-turn Inv-loop μ-loop) where
+  abbrev here : Spot
+  here =
+      let l = k .before in
+      let a = l .before .before .before .args in
+      record { byte = classesOf (a .t .now); n = a .n; file = a .file .now; place = l .loop .place; last = l .loop .last .now }
 
-module _ (l : tie.At-loop Inv-loop μ-loop) where
-  abbrev byte : Classes
-  byte = classesOf (l .before .before .before .args .t .now)
+  tells : (w : Turn) → k .take-turn .result ≡ w → Turned here w
+  tells w = turned here _ w (k .take-turn .ensures)
 
-  abbrev n : ℕ
-  n = l .before .before .before .args .n
-
-  abbrev file : List ℕ
-  file = l .before .before .before .args .file .now
-
-  abbrev place : ℕ
-  place = l .loop .place
-
--- the item at the place is read
-module _ (k : tie.After-reference Inv-loop μ-loop) where
-  abbrev turn : tie.At-loop Inv-loop μ-loop
-  turn = k .before .before .before
-
-  is-read : Reads (byte turn) (n turn) (file turn) (place turn) (k .reference .result)
-  is-read = reads (search needs) (k .reference .ensures)
-
--- it is a record
-module _ (f : tie.After-found Inv-loop μ-loop) where
-  abbrev its-turn : tie.At-loop Inv-loop μ-loop
-  its-turn = turn (f .before .before)
-
-  abbrev it : Record
-  it = f .found .given .0 .0
-
-  is-record : Reads (byte its-turn) (n its-turn) (file its-turn) (place its-turn) (Good it)
-  is-record = told (is-read (f .before .before)) (f .found .given .1)
-
--- its name is cut out and held against the name before
-module _ (q : tie.After-is-less Inv-loop μ-loop) where
-  abbrev of-record : tie.After-found Inv-loop μ-loop
-  of-record = q .before .before .before
-
-  name-is : q .before .name-of .result .now ≡ named (is-record of-record)
-  name-is = named-is (is-record of-record) (q .before .name-of .ensures)
-
-  order-is : smaller (its-turn of-record .loop .last .now) (named (is-record of-record)) ≡ q .is-less .result
-  order-is = ap (smaller (its-turn of-record .loop .last .now)) (sym name-is) ∙ sym (q .is-less .ensures)
+  whole : (w : Turn) → k .take-turn .result ≡ w
+      → judgedAfter here (k .before .loop .count) w ≡ judgeBody (here .byte) (here .n) (here .file) (k .before .before .before .before .args .body)
+  whole w e = sym (judged here (k .before .loop .count) w (tells w e)) ∙ k .before .loop .inv .1
 
 sub-last : tie.Need-sub-last Inv-loop μ-loop
 sub-last c = search needs
@@ -82,66 +49,67 @@ loop-holds : tie.Need-loop-holds Inv-loop μ-loop
 unfolding judgeBody
 loop-holds c = (search needs, refl)
 
-sub-rest : tie.Need-sub-rest Inv-loop μ-loop
-sub-rest c = search needs
+take-turn-requires : tie.Need-take-turn-requires Inv-loop μ-loop
+take-turn-requires c κs = search needs
 
-part-rest-start : tie.Need-part-rest-start Inv-loop μ-loop
-part-rest-start c = search needs
+enum-told : tie.Need-enum-told Inv-loop μ-loop
+enum-told c = search needs
 
-part-rest-end : tie.Need-part-rest-end Inv-loop μ-loop
-part-rest-end c = search needs
-
-reference-requires : tie.Need-reference-requires Inv-loop μ-loop
-reference-requires c κs = search needs
+returns : tie.Need-returns Inv-loop μ-loop
+returns c = whole (c .before .before) _ (c .enum-told .given .1)
 
 enum-known-fault : tie.Need-enum-known-fault Inv-loop μ-loop
 enum-known-fault c = search needs
 
-returns : tie.Need-returns Inv-loop μ-loop
-returns c =
-    let k = c .before .before .before in
-    let l = turn k in
-    let bad = told (is-read k) (c .before .fault .given .1) in
-    sym (turn-bad (byte l) (n l) (file l) (place l) (l .loop .count) (l .loop .last .now) (bad .inside) (c .before .fault .given .0 .0) (bad .is)) ∙ l .loop .inv .1
+returns-2 : tie.Need-returns-2 Inv-loop μ-loop
+returns-2 c = whole (c .before .before .before) _ (c .before .fault .given .1)
+
+enum-told-2 : tie.Need-enum-told-2 Inv-loop μ-loop
+enum-told-2 c = search needs
+
+returns-3 : tie.Need-returns-3 Inv-loop μ-loop
+returns-3 c = whole (c .before .before) _ (c .enum-told2 .given .1)
 
 enum-known-found : tie.Need-enum-known-found Inv-loop μ-loop
 enum-known-found c = search needs
 
+-- a record: its turn
+module _ (f : tie.After-found Inv-loop μ-loop) where
+  abbrev its : tie.After-take-turn Inv-loop μ-loop
+  its = f .before .before
+
+  on : Turned (here its) (On (f .found .given .0 .0))
+  on = tells its _ (f .found .given .1)
+
+sub-name-of : tie.Need-sub-name-of Inv-loop μ-loop
+sub-name-of c = omega (arith, on (c .before) .0 .inside)
+
+part-name-of-start : tie.Need-part-name-of-start Inv-loop μ-loop
+part-name-of-start c = omega (arith, on (c .before) .0 .inside)
+
+part-name-of-end : tie.Need-part-name-of-end Inv-loop μ-loop
+part-name-of-end c = search needs
+
 name-of-requires : tie.Need-name-of-requires Inv-loop μ-loop
 name-of-requires c κs = search needs
 
-is-less-requires : tie.Need-is-less-requires Inv-loop μ-loop
-is-less-requires c κs = search needs
-
-returns-2 : tie.Need-returns-2 Inv-loop μ-loop
-returns-2 c =
-    let f = of-record (c .before) in
-    let l = its-turn f in
-    sym (turn-unsorted (byte l) (n l) (file l) (place l) (l .loop .count) (l .loop .last .now) (is-record f .inside) (it f) (is-record f .is) (order-is (c .before) ∙ not-true _ (c .if1 .taken))) ∙ l .loop .inv .1
-
 add-count : tie.Need-add-count Inv-loop μ-loop
-add-count c = search needs
+add-count c =
+    let f = c .before .before .before in
+    omega (arith, goes-on (on f .0), its f .before .loop .inv .0, its f .before .before .before .before .good)
 
 add-place : tie.Need-add-place Inv-loop μ-loop
 add-place c =
-    let f = of-record (c .before .before) in
-    omega (arith, goes-on (is-record f), its-turn f .before .before .before .good)
+    let f = c .before .before .before .before in
+    omega (arith, goes-on (on f .0), its f .before .before .before .before .good)
 
 loop-less : tie.Need-loop-less Inv-loop μ-loop
-loop-less c = omega (arith, goes-on (is-record (of-record (c .before .before))))
+loop-less c = omega (arith, goes-on (on (c .before .before .before .before) .0))
 
 loop-again : tie.Need-loop-again Inv-loop μ-loop
 loop-again c =
-    let q = c .before .before in
-    let f = of-record q in
-    let l = its-turn f in
-    let again = sym (turn-good (byte l) (n l) (file l) (place l) (l .loop .count) (l .loop .last .now) (is-record f .inside) (it f) (is-record f .is) (order-is q ∙ not-false _ (c .before .if1 .left))) ∙ l .loop .inv .1 in
-    (omega (arith, goes-on (is-record f)), rw (add-one, name-is q) again)
-
-returns-3 : tie.Need-returns-3 Inv-loop μ-loop
-returns-3 c =
-    let l = c .before in
-    sym (turn-end (byte l) (n l) (file l) (place l) (l .loop .count) (l .loop .last .now) (c .loop-test .left)) ∙ l .loop .inv .1
+    let f = c .before .before .before .before in
+    (omega (arith, goes-on (on f .0), its f .before .loop .inv .0), rw (add-one, named-is (on f .0) (c .before .name-of .ensures)) (whole (its f) _ (f .found .given .1)))
 
 pub check-body-spec : {M : Type 1} → statement M
 check-body-spec =
@@ -153,18 +121,19 @@ check-body-spec =
     part-last-start
     part-last-end
     loop-holds
-    sub-rest
-    part-rest-start
-    part-rest-end
-    reference-requires
-    enum-known-fault
+    take-turn-requires
+    enum-told
     returns
-    enum-known-found
-    name-of-requires
-    is-less-requires
+    enum-known-fault
     returns-2
+    enum-told-2
+    returns-3
+    enum-known-found
+    sub-name-of
+    part-name-of-start
+    part-name-of-end
+    name-of-requires
     add-count
     add-place
     loop-less
-    loop-again
-    returns-3)
+    loop-again)
