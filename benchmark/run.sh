@@ -4,7 +4,7 @@
 #   ORACLE_DIR   a copy of the oracle's folder that may be written to (default: target/oracle, copied from ../shared/oracle); benchmark/gix.rs takes the
 #                place of its src/bench.rs there
 #   GIX_SRC, ORACLE_SCRATCH   as the oracle's README says
-#   LIBHOST      the library (default: target/staticlib/libhost.a, made by rt staticlib host)
+#   LIBHOST      the library (default: target/staticlib/libhost.a, made by ./libhost)
 #   INCLUDE      where packed_refs.h is (default: include)
 #   BENCH_DATA   where the files to measure on are kept (default: target/bench)
 set -eu
@@ -19,7 +19,7 @@ fi
 BENCH_DATA=${BENCH_DATA:-$root/target/bench}
 mkdir -p "$BENCH_DATA"
 if [ -z "${LIBHOST:-}" ]; then
-    (cd "$root" && rt staticlib host) >"$BENCH_DATA/build.log" 2>&1 || { tail -n 20 "$BENCH_DATA/build.log"; exit 1; }
+    "$root/libhost" >"$BENCH_DATA/build.log" 2>&1 || { tail -n 20 "$BENCH_DATA/build.log"; exit 1; }
     LIBHOST=$root/target/staticlib/libhost.a
 fi
 cc -O2 -Wall -Wextra -Werror -I"${INCLUDE:-$root/include}" -o "$BENCH_DATA/ours" "$root/benchmark/ours.c" "$LIBHOST"

@@ -2,14 +2,14 @@
 # compare/run.sh [COUNT [SEED]]: builds the library and compares it with the Rust on every short input and COUNT random ones an operation (default
 # 100,000, about three minutes). Not part of the gate, since it needs the oracle: the real gix-ref 0.67.1 as a program.
 #   ORACLE    the oracle's program; its own README says how it is built
-#   LIBHOST   the library (default: target/staticlib/libhost.a, made by rt staticlib host)
+#   LIBHOST   the library (default: target/staticlib/libhost.a, made by ./libhost)
 #   INCLUDE   where packed_refs.h is (default: include)
 set -eu
 root=$(cd "$(dirname "$0")/.." && pwd)
 : "${ORACLE:?the oracle program}"
 export ORACLE
 if [ -z "${LIBHOST:-}" ]; then
-    (cd "$root" && rt staticlib host) >"$root/target/compare.log" 2>&1 || { tail -n 20 "$root/target/compare.log"; exit 1; }
+    "$root/libhost" >"$root/target/compare.log" 2>&1 || { tail -n 20 "$root/target/compare.log"; exit 1; }
     LIBHOST=$root/target/staticlib/libhost.a
 fi
 room=$(mktemp -d)

@@ -8,7 +8,7 @@ fn main() {
     let archive = dir.join("libhost.a");
     println!("cargo:rerun-if-changed=build.rs");
     println!("cargo:rerun-if-changed={}", archive.display());
-    assert!(archive.is_file(), "{} is not there: run `rt staticlib host` at the root of the repository first", archive.display());
+    assert!(archive.is_file(), "{} is not there: run `./libhost` at the root of the repository first", archive.display());
     println!("cargo:rustc-link-search=native={}", dir.display());
     println!("cargo:rustc-link-lib=static=host");
 }

@@ -1,8 +1,5 @@
-pub mod FirstLine
-pub mod Headers
 pub mod Locality
 pub mod Parts
 pub mod Records
 pub mod Shapes
 pub mod Starts
-pub mod Tokens

@@ -6,7 +6,7 @@ use Prim.Native.Nat.{ℕ, zero, suc, _+_, _-_, _≤_, _<_}
 use native.Mathlib.Omega.{arith}
 use lib.ListN.{getD, length, take, drop, length-append, length-drop}
 use lib.Seq.{drop-append-le, take-append-le}
-use Rattle.parse.specs.Class.{Classes, paper, isHex, isLineEnd}
+use Rattle.class.specs.Class.{Classes, paper, isHex, isLineEnd}
 use Rattle.parse.specs.Run.{span}
 use Rattle.parse.specs.Line.{eol, lineLen, textLen}
 use Rattle.parse.proofs.Fronts.{at-drop, same-at, span-local, span-ge, lineLen-skip, eol-local, eol-line, hex-no10, text-no10}

@@ -10,7 +10,7 @@ use lib.ListN.{getD, length, take, drop, length-drop}
 use lib.Seq.{drop-drop}
 use Rattle.parse.specs.declared.part.Past.the-variants.{At}
 use Rattle.parse.specs.declared.line.Text.the-variants.{Ended}
-use Rattle.parse.specs.Class.{Classes}
+use Rattle.class.specs.Class.{Classes}
 use Rattle.parse.specs.Run.{span}
 use Rattle.parse.specs.Part.{byteAt}
 use Rattle.parse.specs.Id.{idAt}

@@ -8,7 +8,7 @@ use lib.Dec.{ltb}
 use lib.ListN.{getD, length, drop, length-drop}
 use borrow.Author.Tests.{ltb-true, ltb-false}
 use Rattle.parse.specs.declared.part.Past.the-variants.{At, Unread}
-use Rattle.parse.specs.Class.{Classes}
+use Rattle.class.specs.Class.{Classes}
 use Rattle.parse.specs.Part.{byteAt}
 use Rattle.parse.specs.Line.{eol, textLen}
 use Rattle.parse.proofs.Runs.{span-le}

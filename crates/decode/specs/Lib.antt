@@ -1,4 +1,3 @@
-pub mod Header
 pub mod Record
 pub mod Shape
 pub mod Start

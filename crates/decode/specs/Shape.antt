@@ -3,7 +3,7 @@ use mathlib.Core.List.{List}
 use Prim.Native.Nat.{ℕ, _-_}
 use lib.Dec.{ltb, eqb}
 use Rattle.parse.specs.Choice.{if}
-use Rattle.parse.specs.Class.{Classes}
+use Rattle.class.specs.Class.{Classes}
 use Rattle.parse.specs.Part.{then, byteAt}
 use Rattle.parse.specs.Line.{textAt, ended}
 use Rattle.decode.specs.declared.shape.Shape.{Shape}

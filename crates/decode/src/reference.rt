@@ -2,7 +2,7 @@
 ghost use mathlib.Core.Path.{_≡_};
 ghost use Prim.Native.Nat.{_+_};
 ghost use lib.ListN.{take, drop};
-ghost use Rattle.parse.specs.Class.{classesOf};
+ghost use Rattle.class.specs.Class.{classesOf};
 ghost use Rattle.decode.specs.Record.{recordOf};
 use parse::line::Text;
 use parse::part::Past;

@@ -1,6 +1,6 @@
 // The name of a record by shape only: hex and name rules aren't looked at.
 ghost use mathlib.Core.Path.{_≡_};
-ghost use Rattle.parse.specs.Class.{classesOf};
+ghost use Rattle.class.specs.Class.{classesOf};
 ghost use Rattle.decode.specs.Shape.{shapeOf};
 use parse::line::Text;
 use parse::part::Past;

@@ -7,10 +7,10 @@ use native.Mathlib.Numerals.{add-one}
 use native.Mathlib.Omega.{arith}
 use lib.ListN.{getD, length, drop, set, length-append, length-drop}
 use lib.Seq.{drop-cons, set-at}
-use Rattle.parse.specs.Class.{Classes}
-use Rattle.edit.specs.declared.change.Change.{Change}
-use Rattle.edit.specs.declared.change.Reading.the-variants.{Good, Malformed, BadName}
-use Rattle.edit.specs.Change.{changeOf}
+use Rattle.class.specs.Class.{Classes}
+use Rattle.change.specs.declared.Change.{Change}
+use Rattle.change.specs.declared.Reading.the-variants.{Good, Malformed, BadName}
+use Rattle.change.specs.Change.{changeOf}
 use Rattle.edit.specs.List.{Listed, all, malformed, badName, tooMany, onto, editsFrom, editsOf, isWhole, placesOf}
 use Rattle.edit.proofs.Lists.{from-end, from-many, from-malformed, from-bad-name, from-good}
 

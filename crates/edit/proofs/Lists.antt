@@ -5,10 +5,10 @@ use Prim.Native.Nat.{ℕ, zero, suc, _+_, _-_, _≤_, _<_}
 use native.Mathlib.Omega.{arith}
 use lib.ListN.{length, drop}
 use borrow.Author.Tests.{lt-ltb, le-ltb}
-use Rattle.parse.specs.Class.{Classes}
-use Rattle.edit.specs.declared.change.Change.{Change}
-use Rattle.edit.specs.declared.change.Reading.the-variants.{Good, Malformed, BadName}
-use Rattle.edit.specs.Change.{changeOf}
+use Rattle.class.specs.Class.{Classes}
+use Rattle.change.specs.declared.Change.{Change}
+use Rattle.change.specs.declared.Reading.the-variants.{Good, Malformed, BadName}
+use Rattle.change.specs.Change.{changeOf}
 use Rattle.edit.specs.List.{Listed, all, malformed, badName, tooMany, onto, editsFrom, told}
 
 -- ---- turns

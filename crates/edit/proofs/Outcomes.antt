@@ -7,7 +7,7 @@ use native.Mathlib.Nat.{zero-add}
 use native.Mathlib.Omega.{arith}
 use lib.ListN.{length, drop}
 use borrow.Author.Tests.{lt-ltb, le-ltb}
-use Rattle.parse.specs.Class.{Classes}
+use Rattle.class.specs.Class.{Classes}
 use Rattle.parse.specs.Limit.{overLimit}
 use Rattle.edit.specs.declared.list.Edits.the-variants as edits
 use Rattle.edit.specs.declared.list.Prepared.{Prepared}

@@ -5,23 +5,23 @@ use Prim.Native.Nat.{ℕ, zero, suc, _+_}
 use lib.Dec.{ltb}
 use lib.ListN.{length, drop}
 use Rattle.parse.specs.Choice.{if}
-use Rattle.parse.specs.Class.{Classes}
+use Rattle.class.specs.Class.{Classes}
 use Rattle.parse.specs.Limit.{overLimit}
-use Rattle.sort.specs.declared.name.Layout.the-variants.{Edit}
+use Rattle.places.specs.declared.name.Layout.the-variants.{Edit}
 use Rattle.sort.specs.declared.twin.Twin.{Twin}
 use Rattle.sort.specs.declared.twin.Twin.the-variants as twin
-use Rattle.sort.specs.Name.{nameOf}
-use Rattle.sort.specs.Order.{comesFirst}
+use Rattle.places.specs.Name.{nameOf}
+use Rattle.places.specs.Order.{comesFirst}
 use Rattle.sort.specs.Sorted.{sorted}
 use Rattle.sort.specs.Twin.{firstTwin}
-use Rattle.edit.specs.declared.change.Change.{Change}
-use Rattle.edit.specs.declared.change.Reading.{Reading}
-use Rattle.edit.specs.declared.change.Reading.the-variants as reading
+use Rattle.change.specs.declared.Change.{Change}
+use Rattle.change.specs.declared.Reading.{Reading}
+use Rattle.change.specs.declared.Reading.the-variants as reading
 use Rattle.edit.specs.declared.list.Edits.{Edits}
 use Rattle.edit.specs.declared.list.Edits.the-variants as edits
 use Rattle.edit.specs.declared.list.Prepared.{Prepared}
 use Rattle.edit.specs.declared.list.Prepared.the-variants.{Ready, Malformed, BadName, TooMany, ShortIndex, Twins, TooLarge}
-use Rattle.edit.specs.Change.{changeOf}
+use Rattle.change.specs.Change.{changeOf}
 
 -- ---- the edits' places, or the first fault and its place
 

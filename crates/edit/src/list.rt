@@ -4,10 +4,10 @@ ghost use mathlib.Core.Bool.{true};
 ghost use mathlib.Core.List.{_++_};
 ghost use Prim.Native.Nat.{_≤_, _<_};
 ghost use lib.ListN.{length, take, drop};
-ghost use Rattle.parse.specs.Class.{classesOf};
+ghost use Rattle.class.specs.Class.{classesOf};
 ghost use Rattle.edit.specs.List.{editsOf, told, isWhole, placesOf, inOrder, preparedOf, twinsOf, indexAfter};
-use crate::change::Reading;
-use sort::name::Layout;
+use change::Reading;
+use places::name::Layout;
 use sort::twin::Twin;
 
 // How many edits a list has, or the place of its first fault.
@@ -42,7 +42,7 @@ pub(crate) fn count(t: &[u8; 256], n: usize, list: &[u8]) -> Edits
             return Edits::TooMany(place);
         }
         let rest = &list[place..];
-        match crate::change::read(t, n, rest) {
+        match change::read(t, n, rest) {
             Reading::Good(c) => {
                 place += c.size;
                 count += 1;
@@ -112,7 +112,7 @@ fn fill(t: &[u8; 256], n: usize, list: &[u8], index: &mut [u32])
     let mut i = 0;
     while place < list.len() {
         let rest = &list[place..];
-        match crate::change::read(t, n, rest) {
+        match change::read(t, n, rest) {
             Reading::Good(c) => {
                 index[i] = place as u32;
                 place += c.size;

@@ -4,12 +4,12 @@ use mathlib.Core.List.{List, [], _∷_, _++_}
 use Prim.Native.Nat.{ℕ, _+_, _≤_}
 use native.Mathlib.Omega.{arith}
 use lib.ListN.{length, length-append}
-use Rattle.parse.specs.declared.order.Order.the-variants.{Less}
-use Rattle.parse.specs.Class.{Classes}
-use Rattle.parse.specs.Order.{orderOf}
-use Rattle.parse.proofs.Orders.{less-trans}
+use Rattle.compare.specs.declared.order.Order.the-variants.{Less}
+use Rattle.class.specs.Class.{Classes}
+use Rattle.compare.specs.Order.{orderOf}
+use Rattle.compare.proofs.Orders.{less-trans}
 use Rattle.iter.specs.Items.{Item, items, bytesOf, nameOf}
-use Rattle.iter.specs.Passes.{ascending}
+use Rattle.checks.specs.Passes.{ascending}
 use Rattle.iter.specs.Stands.{Stands}
 
 module _ (n : ℕ) where

@@ -3,9 +3,9 @@ use mathlib.Core.Path.{_≡_}
 use mathlib.Core.Bool.{true}
 use mathlib.Core.List.{List, []}
 use Prim.Native.Nat.{ℕ, _<_}
-use Rattle.parse.specs.Class.{paper}
+use Rattle.class.specs.Class.{paper}
 use Rattle.iter.specs.Items.{Item, items}
-use Rattle.iter.specs.Passes.{isGood, allGood, ascending, Passes}
+use Rattle.checks.specs.Passes.{isGood, allGood, ascending, Passes}
 use Rattle.iter.specs.Stands.{Stands}
 use Rattle.find.proofs.Ascending.{Apart, apart}
 use Rattle.find.proofs.ItemAt.{stands-good}

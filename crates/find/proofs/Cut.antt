@@ -7,15 +7,15 @@ use native.Mathlib.Omega.{arith}
 use lib.Dec.{ltb}
 use lib.ListN.{length}
 use borrow.Author.Tests.{ltb-true, ltb-false}
-use Rattle.parse.specs.declared.order.Order.the-variants.{Less, Equal, Greater}
-use Rattle.parse.specs.Class.{paper}
-use Rattle.parse.specs.Order.{orderOf}
-use Rattle.parse.proofs.Orders.{order-equal}
+use Rattle.compare.specs.declared.order.Order.the-variants.{Less, Equal, Greater}
+use Rattle.class.specs.Class.{paper}
+use Rattle.compare.specs.Order.{orderOf}
+use Rattle.compare.proofs.Orders.{order-equal}
 use Rattle.decode.specs.Start.{recordStart}
 use Rattle.iter.specs.Items.{Item, nameOf}
 use Rattle.iter.specs.Stands.{Stands}
-use Rattle.find.specs.declared.search.Found.{Found}
-use Rattle.find.specs.Search.{orderAt, placed, searchOf}
+use Rattle.search.specs.declared.Found.{Found}
+use Rattle.search.specs.Search.{orderAt, placed, searchOf}
 use Rattle.find.specs.Listing.{placeOf}
 use Rattle.find.proofs.Ascending.{Apart, same, first, second}
 use Rattle.find.proofs.Checked.{Checked, two-records}

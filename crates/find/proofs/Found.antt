@@ -5,24 +5,24 @@ use mathlib.Core.List.{List}
 use Prim.Native.Nat.{ℕ, _<_}
 use native.Mathlib.Omega.{arith}
 use lib.ListN.{drop}
-use Rattle.parse.specs.declared.order.Order.the-variants.{Less}
-use Rattle.parse.specs.Class.{paper}
-use Rattle.parse.specs.Order.{orderOf}
-use Rattle.parse.proofs.Orders.{order-refl}
+use Rattle.compare.specs.declared.order.Order.the-variants.{Less}
+use Rattle.class.specs.Class.{paper}
+use Rattle.compare.specs.Order.{orderOf}
+use Rattle.compare.proofs.Orders.{order-refl}
 use Rattle.name.specs.Name.{validName}
 use Rattle.decode.specs.declared.reference.Record.{Record}
 use Rattle.decode.specs.declared.reference.Reading.{Reading}
 use Rattle.decode.specs.declared.reference.Reading.the-variants.{Good, Bad}
 use Rattle.decode.specs.Record.{recordOf}
 use Rattle.iter.specs.Items.{Item, items, nameOf}
-use Rattle.iter.specs.Passes.{isGood, Passes}
-use Rattle.iter.specs.Stands.{Stands}
+use Rattle.checks.specs.Passes.{isGood, Passes}
+use Rattle.iter.specs.Stands.{Stands, Named}
 use Rattle.iter.proofs.Each.{each}
-use Rattle.find.specs.declared.search.Found.the-variants.{Hit, Miss}
+use Rattle.search.specs.declared.Found.the-variants.{Hit, Miss}
 use Rattle.find.specs.declared.lookup.Lookup.the-variants.{Charted, Absent}
-use Rattle.find.specs.Search.{searchOf}
+use Rattle.search.specs.Search.{searchOf}
 use Rattle.find.specs.Lookup.{lookupOf}
-use Rattle.find.specs.Present.{Named, FoundExactly}
+use Rattle.find.specs.Present.{FoundExactly}
 use Rattle.find.proofs.Ascending.{Apart, same, first, second}
 use Rattle.find.proofs.Checked.{Checked, checked, good-at, two-records}
 use Rattle.find.proofs.Searched.{Searched, hit, miss, searched}

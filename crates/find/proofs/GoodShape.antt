@@ -7,8 +7,8 @@ use native.Mathlib.Numerals.{add-one}
 use native.Mathlib.Omega.{arith}
 use lib.ListN.{take, drop, length-take}
 use lib.Seq.{drop-drop}
-use Rattle.parse.specs.Class.{paper}
-use Rattle.parse.specs.Order.{orderOf}
+use Rattle.class.specs.Class.{paper}
+use Rattle.compare.specs.Order.{orderOf}
 use Rattle.parse.specs.Line.{textLen}
 use Rattle.parse.proofs.Views.{textEnd}
 use Rattle.name.proofs.Laws.{valid-some}
@@ -21,9 +21,9 @@ use Rattle.decode.specs.Shape.{shapeOf}
 use Rattle.decode.proofs.Records.{nameLen, afterName, Head, View, is-bad, plain, peeled, view}
 use Rattle.decode.proofs.Shapes.{shapeLen, ShapeView, named, shapeless, shape-view}
 use Rattle.iter.specs.Items.{itemOf, nameOf}
-use Rattle.iter.specs.Passes.{isGood}
+use Rattle.checks.specs.Passes.{isGood}
 use Rattle.iter.proofs.Turns.{item-name}
-use Rattle.find.specs.Search.{probedOf}
+use Rattle.search.specs.Search.{probedOf}
 
 module _ (n : ℕ) (t : List ℕ) where
   -- a valid name is not empty

@@ -4,17 +4,17 @@ use mathlib.Core.Bool.{true}
 use mathlib.Core.List.{List}
 use Prim.Native.Nat.{ℕ, _<_}
 use lib.ListN.{drop}
-use Rattle.parse.specs.Class.{paper}
+use Rattle.class.specs.Class.{paper}
 use Rattle.name.specs.Name.{validName}
-use Rattle.decode.specs.declared.header.Header.{Header}
-use Rattle.decode.specs.declared.header.Opened.the-variants as opened
-use Rattle.decode.specs.Header.{headerOf}
-use Rattle.iter.specs.declared.check.Verdict.the-variants as verdict
+use Rattle.header.specs.declared.Header.{Header}
+use Rattle.header.specs.declared.Opened.the-variants as opened
+use Rattle.header.specs.Header.{headerOf}
+use Rattle.checks.specs.declared.Verdict.the-variants as verdict
 use Rattle.iter.specs.Items.{items}
-use Rattle.iter.specs.Check.{checkOf}
-use Rattle.iter.specs.CheckMeans.{Body}
-use Rattle.iter.specs.Passes.{Passes}
-use Rattle.iter.proofs.CheckMeans.{check-means}
+use Rattle.checks.specs.Check.{checkOf}
+use Rattle.checks.specs.CheckMeans.{Body}
+use Rattle.checks.specs.Passes.{Passes}
+use Rattle.checks.proofs.CheckMeans.{check-means}
 use Rattle.find.specs.Present.{FoundExactly, ListsExactly, InChecked}
 use Rattle.find.proofs.Found.{found-exactly}
 use Rattle.find.proofs.Lists.{lists-exactly}

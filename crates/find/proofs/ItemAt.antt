@@ -7,9 +7,9 @@ use native.Mathlib.Omega.{arith}
 use lib.Dec.{ltb}
 use lib.ListN.{length, length-append}
 use borrow.Author.Tests.{ltb-true, ltb-false}
-use Rattle.parse.specs.Class.{Classes}
+use Rattle.class.specs.Class.{Classes}
 use Rattle.iter.specs.Items.{Item, items, bytesOf}
-use Rattle.iter.specs.Passes.{isGood, allGood}
+use Rattle.checks.specs.Passes.{isGood, allGood}
 use Rattle.iter.specs.Stands.{Stands}
 use Rattle.iter.proofs.Items.{tile}
 

@@ -7,13 +7,13 @@ use Prim.Native.Nat.{ℕ, _<_}
 use native.Mathlib.Omega.{arith}
 use lib.Dec.{ltb, eqb}
 use borrow.Author.Tests.{le-ltb, ltb-false, ne-eqb, eq-eqb, eqb-true}
-use Rattle.parse.specs.declared.order.Order.the-variants.{Less}
+use Rattle.compare.specs.declared.order.Order.the-variants.{Less}
 use Rattle.parse.specs.Choice.{if}
-use Rattle.parse.specs.Order.{orderOf}
-use Rattle.parse.specs.Prefix.{begins}
-use Rattle.parse.proofs.Orders.{less-split, less-trans}
+use Rattle.compare.specs.Order.{orderOf}
+use Rattle.compare.specs.Prefix.{begins}
+use Rattle.compare.proofs.Orders.{less-split, less-trans}
 use Rattle.iter.specs.Items.{Item, nameOf}
-use Rattle.iter.specs.Passes.{ascending}
+use Rattle.checks.specs.Passes.{ascending}
 use Rattle.find.specs.Present.{withPrefix}
 
 -- ---- names

@@ -1,10 +1,8 @@
 pub mod Ascending
 pub mod Checked
 pub mod Cut
-pub mod Examples
 pub mod Found
 pub mod GoodShape
-pub mod Halving
 pub mod InFile
 pub mod ItemAt
 pub mod Leading
@@ -16,8 +14,5 @@ pub mod RecordLines
 pub mod RecordStarts
 pub mod Rest
 pub mod Searched
-pub mod Seeking
 pub mod Sides
-pub mod Sought
-pub mod Trusted
 pub mod Walk

@@ -8,20 +8,20 @@ use native.Mathlib.Omega.{arith}
 use lib.Dec.{ltb}
 use lib.ListN.{getD, length, drop, length-append, List·getD-eq-default}
 use borrow.Author.Tests.{ltb-true, ltb-false, ne-eqb}
-use Rattle.parse.specs.declared.order.Order.the-variants.{Less}
-use Rattle.parse.specs.Class.{paper, isHex}
-use Rattle.parse.specs.Order.{orderOf}
+use Rattle.compare.specs.declared.order.Order.the-variants.{Less}
+use Rattle.class.specs.Class.{paper, isHex}
+use Rattle.compare.specs.Order.{orderOf}
 use Rattle.decode.specs.Record.{recordOf}
-use Rattle.decode.proofs.Headers.{no-hash}
+use Rattle.header.proofs.Headers.{no-hash}
 use Rattle.iter.specs.declared.start.Start.the-variants as start
 use Rattle.iter.specs.Items.{Item, items, bytesOf, nameOf}
-use Rattle.iter.specs.Passes.{isGood, allGood, Passes}
+use Rattle.checks.specs.Passes.{isGood, allGood, Passes}
 use Rattle.iter.specs.Stands.{Stands}
 use Rattle.iter.specs.Start.{firstItem, startOf}
 use Rattle.iter.proofs.Each.{each}
 use Rattle.iter.proofs.Items.{items-step, tile}
 use Rattle.find.specs.declared.listing.Listing.the-variants.{From}
-use Rattle.find.specs.Search.{searchOf}
+use Rattle.search.specs.Search.{searchOf}
 use Rattle.find.specs.Listing.{placeOf, listingFrom, listingOf}
 use Rattle.find.specs.Present.{withPrefix, ListsExactly}
 use Rattle.find.proofs.Checked.{Checked, checked}

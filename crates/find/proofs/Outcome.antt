@@ -5,12 +5,12 @@ use Prim.Native.Nat.{ℕ, zero, suc, _+_, _≤_, _<_}
 use native.Mathlib.Omega.{arith}
 use lib.Dec.{ltb}
 use borrow.Author.Tests.{ltb-true, ltb-false}
-use Rattle.parse.specs.declared.order.Order.{Order}
-use Rattle.parse.specs.declared.order.Order.the-variants.{Less, Equal, Greater}
-use Rattle.find.specs.declared.search.Found.{Found}
-use Rattle.find.specs.declared.search.Found.the-variants.{Hit, Miss}
-use Rattle.find.specs.Search.{middle, halve}
-use Rattle.find.proofs.Halving.{halve-done, halve-less, halve-greater, halve-equal}
+use Rattle.compare.specs.declared.order.Order.{Order}
+use Rattle.compare.specs.declared.order.Order.the-variants.{Less, Equal, Greater}
+use Rattle.search.specs.declared.Found.{Found}
+use Rattle.search.specs.declared.Found.the-variants.{Hit, Miss}
+use Rattle.search.specs.Search.{middle, halve}
+use Rattle.search.proofs.Halving.{halve-done, halve-less, halve-greater, halve-equal}
 
 -- below a place that is too small all are, behind one that is too great all are; and no shape fails
 pub record Ascends (order : ℕ → Order) (failure : ℕ → Bool) (len : ℕ) : Type 0 where

@@ -5,11 +5,11 @@ use mathlib.Core.List.{List}
 use Prim.Native.Nat.{ℕ, _≤_}
 use native.Mathlib.Omega.{arith}
 use lib.ListN.{length}
-use Rattle.parse.specs.Class.{Classes}
+use Rattle.class.specs.Class.{Classes}
 use Rattle.decode.proofs.Starts.{start-inside}
-use Rattle.find.specs.declared.search.Found.{Found}
-use Rattle.find.specs.declared.search.Found.the-variants.{Hit, Miss}
-use Rattle.find.specs.Search.{halve, orderAt, failureAt, placed, searchOf}
+use Rattle.search.specs.declared.Found.{Found}
+use Rattle.search.specs.declared.Found.the-variants.{Hit, Miss}
+use Rattle.search.specs.Search.{halve, orderAt, failureAt, placed, searchOf}
 use Rattle.find.specs.Listing.{placeOf}
 
 module _ (byte : Classes) (n : ℕ) (s wanted : List ℕ) where

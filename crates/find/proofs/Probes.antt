@@ -8,12 +8,12 @@ use native.Mathlib.Omega.{arith}
 use lib.Dec.{ltb}
 use lib.ListN.{length}
 use borrow.Author.Tests.{ltb-true, le-ltb}
-use Rattle.parse.specs.declared.order.Order.{Order}
-use Rattle.parse.specs.declared.order.Order.the-variants.{Less, Equal, Greater}
-use Rattle.parse.specs.Class.{Classes}
-use Rattle.find.specs.Search.{middle, halve, probeCount, orderAt, failureAt, placed, searchOf, probesOf}
+use Rattle.compare.specs.declared.order.Order.{Order}
+use Rattle.compare.specs.declared.order.Order.the-variants.{Less, Equal, Greater}
+use Rattle.class.specs.Class.{Classes}
+use Rattle.search.specs.Search.{middle, halve, probeCount, orderAt, failureAt, placed, searchOf, probesOf}
 use Rattle.find.specs.Present.{FewProbes}
-use Rattle.find.proofs.Halving.{halve-done}
+use Rattle.search.proofs.Halving.{halve-done}
 
 -- one probe halves the gap, whatever it says
 few : (order : ℕ → Order) (turns j low high : ℕ) → high < low + 2 ^ j → probeCount order turns low high ≤ j

@@ -7,7 +7,7 @@ use native.Mathlib.Omega.{arith}
 use lib.ListN.{getD, drop}
 use lib.Seq.{drop-drop, getD-drop}
 use Rattle.parse.specs.Choice.{if}
-use Rattle.parse.specs.Class.{paper, isHex}
+use Rattle.class.specs.Class.{paper, isHex}
 use Rattle.parse.specs.Run.{span}
 use Rattle.parse.specs.Line.{eol, lineLen}
 use Rattle.parse.proofs.Fronts.{Eol, none, lf, crlf, eol-view, at-drop}
@@ -17,7 +17,7 @@ use Rattle.decode.specs.Record.{recordOf}
 use Rattle.decode.proofs.Records.{nameLen, afterName, headLen, Head, peelLen, Peel, View, is-bad, plain, peeled, view}
 use Rattle.decode.proofs.Locality.{head-line, peel-line}
 use Rattle.iter.specs.Items.{sizeOf}
-use Rattle.iter.specs.Passes.{isGood}
+use Rattle.checks.specs.Passes.{isGood}
 use Rattle.iter.proofs.Items.{size-good}
 
 -- ---- line ends

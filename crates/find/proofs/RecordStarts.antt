@@ -10,14 +10,14 @@ use lib.ListN.{getD, length, drop, length-drop}
 use lib.Seq.{drop-drop, getD-drop, length-take-le}
 use borrow.Author.Tests.{ltb-true, ltb-false}
 use Rattle.parse.specs.Choice.{if}
-use Rattle.parse.specs.Class.{paper, isHex}
+use Rattle.class.specs.Class.{paper, isHex}
 use Rattle.parse.specs.Line.{lineLen}
 use Rattle.parse.proofs.Fronts.{at-drop, lineLen-some}
 use Rattle.decode.specs.Record.{recordOf}
 use Rattle.decode.specs.Start.{lineStart, recordStart}
 use Rattle.decode.proofs.Starts.{line-stop, line-back, start-here, start-before, start-at-end}
 use Rattle.iter.specs.Items.{Item, sizeOf, items}
-use Rattle.iter.specs.Passes.{isGood, allGood}
+use Rattle.checks.specs.Passes.{isGood, allGood}
 use Rattle.iter.specs.Stands.{Stands, Each}
 use Rattle.iter.proofs.Items.{size-le}
 use Rattle.iter.proofs.Each.{each}

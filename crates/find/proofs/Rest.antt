@@ -6,9 +6,9 @@ use Prim.Native.Nat.{ℕ, _+_}
 use native.Mathlib.Omega.{arith}
 use lib.ListN.{length, drop, length-append}
 use lib.Seq.{drop-drop, length-take-le}
-use Rattle.parse.specs.Class.{Classes}
+use Rattle.class.specs.Class.{Classes}
 use Rattle.iter.specs.Items.{Item, sizeOf, itemOf, items, bytesOf, nameOf}
-use Rattle.iter.specs.Passes.{isGood, allGood, ascending}
+use Rattle.checks.specs.Passes.{isGood, allGood, ascending}
 use Rattle.iter.specs.Stands.{Stands}
 use Rattle.iter.proofs.Items.{items-step, some-item, size-le}
 

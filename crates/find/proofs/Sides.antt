@@ -6,16 +6,16 @@ use mathlib.Core.List.{List}
 use Prim.Native.Nat.{ℕ, _+_, _≤_, _<_}
 use native.Mathlib.Omega.{arith}
 use lib.ListN.{length, drop}
-use Rattle.parse.specs.declared.order.Order.the-variants.{Less, Greater}
-use Rattle.parse.specs.Class.{paper}
-use Rattle.parse.specs.Order.{orderOf}
-use Rattle.parse.proofs.Orders.{less-trans, less-flip, greater-flip}
+use Rattle.compare.specs.declared.order.Order.the-variants.{Less, Greater}
+use Rattle.class.specs.Class.{paper}
+use Rattle.compare.specs.Order.{orderOf}
+use Rattle.compare.proofs.Orders.{less-trans, less-flip, greater-flip}
 use Rattle.decode.specs.Start.{recordStart}
 use Rattle.iter.specs.Items.{Item, itemOf, nameOf}
 use Rattle.iter.specs.Stands.{Stands}
 use Rattle.iter.proofs.Each.{each}
-use Rattle.find.specs.declared.search.Probed.{Probed}
-use Rattle.find.specs.Search.{probedAt, orderAt, failureAt}
+use Rattle.search.specs.declared.Probed.{Probed}
+use Rattle.search.specs.Search.{probedAt, orderAt, failureAt}
 use Rattle.find.proofs.Ascending.{Apart, same, first, second}
 use Rattle.find.proofs.Checked.{Checked, good-at, two-records}
 use Rattle.find.proofs.GoodShape.{good-probed}

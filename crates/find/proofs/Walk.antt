@@ -8,15 +8,15 @@ use lib.Dec.{ltb}
 use lib.ListN.{length, take, drop, length-drop, drop-of-length-le}
 use lib.Seq.{drop-drop}
 use borrow.Author.Tests.{ltb-true, ltb-false}
-use Rattle.parse.specs.Class.{paper}
-use Rattle.parse.specs.Prefix.{begins}
+use Rattle.class.specs.Class.{paper}
+use Rattle.compare.specs.Prefix.{begins}
 use Rattle.decode.specs.declared.reference.Record.{Record}
 use Rattle.decode.specs.declared.reference.Reading.{Reading}
 use Rattle.decode.specs.declared.reference.Reading.the-variants.{Good, Bad}
 use Rattle.decode.specs.Record.{recordOf}
 use Rattle.decode.proofs.Records.{fits}
 use Rattle.iter.specs.Items.{Item, itemOf, items}
-use Rattle.iter.specs.Passes.{isGood, allGood}
+use Rattle.checks.specs.Passes.{isGood, allGood}
 use Rattle.iter.proofs.Items.{items-nil, items-step, size-good}
 use Rattle.iter.proofs.Steps.{step-end, step-other, step-good}
 use Rattle.iter.proofs.Turns.{item-name}

@@ -4,18 +4,18 @@ use mathlib.Core.List.{List}
 use Prim.Native.Nat.{ℕ, _+_}
 use lib.ListN.{length, drop}
 use Rattle.parse.specs.Choice.{if}
-use Rattle.parse.specs.Class.{Classes, paper}
+use Rattle.class.specs.Class.{Classes, paper}
 use Rattle.parse.specs.Limit.{admission, admit}
 use Rattle.iter.specs.declared.start.Start.{Start}
 use Rattle.iter.specs.declared.start.Start.the-variants as start
 use Rattle.iter.specs.Start.{startOf}
-use Rattle.find.specs.declared.search.Found.{Found}
-use Rattle.find.specs.declared.search.Found.the-variants.{Hit, Miss}
+use Rattle.search.specs.declared.Found.{Found}
+use Rattle.search.specs.declared.Found.the-variants.{Hit, Miss}
 use Rattle.find.specs.declared.listing.Listing.{Listing}
 use Rattle.find.specs.declared.listing.Listing.the-variants.{From, BadHeader}
 use Rattle.find.specs.declared.listing.ListingAnswer.{ListingAnswer}
 use Rattle.find.specs.declared.listing.ListingAnswer.the-variants.{Done, UnknownKind, TooLarge}
-use Rattle.find.specs.Search.{searchOf}
+use Rattle.search.specs.Search.{searchOf}
 
 abbrev pub placeOf : Found → ℕ
 placeOf (Hit place) = place

@@ -4,19 +4,19 @@ use mathlib.Core.List.{List}
 use Prim.Native.Nat.{ℕ}
 use lib.ListN.{length, drop}
 use Rattle.parse.specs.Choice.{if}
-use Rattle.parse.specs.Class.{Classes, paper}
+use Rattle.class.specs.Class.{Classes, paper}
 use Rattle.parse.specs.Limit.{admission, admit}
 use Rattle.name.specs.Name.{validName}
 use Rattle.decode.specs.declared.reference.Reading.{Reading}
 use Rattle.decode.specs.declared.reference.Reading.the-variants.{Good, Bad}
 use Rattle.decode.specs.Record.{recordOf, faultNumber}
-use Rattle.find.specs.declared.search.Found.{Found}
-use Rattle.find.specs.declared.search.Found.the-variants.{Hit, Miss}
+use Rattle.search.specs.declared.Found.{Found}
+use Rattle.search.specs.declared.Found.the-variants.{Hit, Miss}
 use Rattle.find.specs.declared.lookup.Lookup.{Lookup}
 use Rattle.find.specs.declared.lookup.Lookup.the-variants.{Charted, BadRecord, Unsure, Absent, BadName}
 use Rattle.find.specs.declared.lookup.LookupAnswer.{LookupAnswer}
 use Rattle.find.specs.declared.lookup.LookupAnswer.the-variants.{Done, UnknownKind, TooLarge}
-use Rattle.find.specs.Search.{searchOf}
+use Rattle.search.specs.Search.{searchOf}
 
 -- "On a hit the record is read in full: 0, or 4 if bad; earlier failed probes then don't count."
 abbrev pub readAt : ℕ → Reading → Lookup

@@ -1,39 +1,30 @@
--- What lookup, listing and the trusted lookup mean.
+-- What lookup and listing mean.
 use mathlib.Core.Path.{_≡_}
 use mathlib.Core.Bool.{Bool, true, false, not, _&&_}
 use mathlib.Core.List.{List, [], _∷_}
 use Prim.Native.Nat.{ℕ, zero, suc, _+_, _^_, _≤_, _<_}
 use lib.ListN.{length, drop}
 use Rattle.parse.specs.Choice.{if}
-use Rattle.parse.specs.Class.{Classes, paper}
-use Rattle.parse.specs.Prefix.{begins}
-use Rattle.decode.specs.declared.header.Header.{Header}
-use Rattle.decode.specs.declared.header.Opened.the-variants as opened
+use Rattle.class.specs.Class.{Classes, paper}
+use Rattle.compare.specs.Prefix.{begins}
+use Rattle.header.specs.declared.Header.{Header}
+use Rattle.header.specs.declared.Opened.the-variants as opened
 use Rattle.decode.specs.declared.reference.Record.{Record}
 use Rattle.decode.specs.declared.reference.Reading.the-variants as reading
-use Rattle.decode.specs.Header.{headerOf}
-use Rattle.iter.specs.declared.check.Verdict.the-variants as verdict
+use Rattle.header.specs.Header.{headerOf}
+use Rattle.checks.specs.declared.Verdict.the-variants as verdict
 use Rattle.iter.specs.declared.step.Step.{Step}
 use Rattle.iter.specs.declared.step.Step.the-variants as step
 use Rattle.iter.specs.Items.{Item, itemOf, items, nameOf}
-use Rattle.iter.specs.Check.{checkOf}
-use Rattle.iter.specs.Passes.{isGood}
-use Rattle.iter.specs.Stands.{Stands}
+use Rattle.checks.specs.Check.{checkOf}
+use Rattle.checks.specs.Passes.{isGood}
+use Rattle.iter.specs.Stands.{Named, nextPlace}
 use Rattle.iter.specs.Step.{stepOf}
 use Rattle.find.specs.declared.lookup.Lookup.the-variants as lookup
 use Rattle.find.specs.declared.listing.Listing.the-variants.{From}
-use Rattle.find.specs.declared.ask.Told.the-variants as told
-use Rattle.find.specs.Search.{halve, orderAt, failureAt, placed, searchOf, probesOf}
+use Rattle.search.specs.Search.{halve, orderAt, failureAt, placed, searchOf, probesOf}
 use Rattle.find.specs.Lookup.{lookupOf}
 use Rattle.find.specs.Listing.{listingOf}
-use Rattle.find.specs.Ask.{askOf}
-
--- in the body s a record of the name stands at a place
-pub record Named (n : ℕ) (s name : List ℕ) (place : ℕ) (r : Record) : Type 0 where
-  pub it : Item
-  pub stands : Stands paper n s place it
-  pub good : it .what ≡ reading.Good r
-  pub name-is : nameOf n it ≡ name
 
 -- ---- "Behind the header of a file that passes the check, a valid name is found exactly if a record has it."
 
@@ -58,11 +49,6 @@ stepped (step.End next item) i l = []
 stepped (step.Good r next item) i l = i ∷ l
 stepped (step.Error f number text next item) i l = i ∷ l
 
-abbrev pub nextPlace : Step → ℕ
-nextPlace (step.End next item) = next
-nextPlace (step.Good r next item) = next
-nextPlace (step.Error f number text next item) = next
-
 abbrev pub walk : ℕ → List ℕ → List ℕ → ℕ → ℕ → List Item
 walk n prefix s zero place = []
 walk n prefix s (suc turns) place =
@@ -85,14 +71,3 @@ pub record FewProbes (byte : Classes) (n : ℕ) (s wanted : List ℕ) : Type 0 w
   -- after so many turns the search has ended
   pub enough : (j : ℕ) → length s < 2 ^ j
       → searchOf byte n s wanted ≡ placed byte n s wanted (halve (orderAt byte n s wanted) (failureAt byte n s wanted) j 0 (length s) false)
-
--- ---- the lookup that can be trusted on any bytes
-
-pub record Trusted (n : ℕ) (file name : List ℕ) : Type 0 where
-  -- absent: the file passes the check, and no record of it has the name
-  pub absent : askOf paper n file name ≡ told.Absent
-      → (count : ℕ) × (h : Header) × (checkOf paper n file ≡ verdict.Clean count) × (headerOf paper file ≡ opened.Header h)
-      × ((place : ℕ) (r : Record) → Named n (drop (h .body) file) name place r → ⊥)
-  -- charted: a record of the file has the name, at the place told
-  pub charted : (place : ℕ) (r : Record) → askOf paper n file name ≡ told.Charted place r
-      → (h : Header) × (inner : ℕ) × (headerOf paper file ≡ opened.Header h) × (place ≡ h .body + inner) × Named n (drop (h .body) file) name inner r

@@ -1,5 +1,3 @@
-// Lookup of one name, prefix listing, and the lookup that can be trusted on any bytes.
-pub mod ask;
+// Lookup of one name in a checked body, and prefix listing.
 pub mod listing;
 pub mod lookup;
-pub mod search;

@@ -2,11 +2,11 @@
 ghost use mathlib.Core.Path.{_≡_};
 ghost use Prim.Native.Nat.{_≤_};
 ghost use lib.ListN.{length};
-ghost use Rattle.parse.specs.Class.{classesOf};
+ghost use Rattle.class.specs.Class.{classesOf};
 ghost use Rattle.find.specs.Listing.{listingOf, listingFrom, listingAnswer};
-use crate::search::Found;
 use iter::start::Start;
 use parse::limit::Admission;
+use search::Found;
 
 pub enum Listing {
     // The place that the first step is taken from, and its item number.
@@ -26,7 +26,7 @@ pub fn list(kind: u32, body: &[u8], prefix: &[u8]) -> ListingAnswer
 {
     match parse::limit::admit(kind, body.len(), prefix.len()) {
         Admission::Digits(n) => {
-            let t = parse::class::table();
+            let t = class::table();
             ListingAnswer::Done(list_by(&t, n, body, prefix))
         }
         Admission::UnknownKind => ListingAnswer::UnknownKind,
@@ -38,7 +38,7 @@ pub fn list(kind: u32, body: &[u8], prefix: &[u8]) -> ListingAnswer
 pub(crate) fn list_by(t: &[u8; 256], n: usize, body: &[u8], prefix: &[u8]) -> Listing
     ensures { λ r. ⌜ r ≡ listingOf (classesOf (now (t .entry))) n (now (body .entry)) (now (prefix .entry)) ⌝ }
 {
-    match crate::search::search(t, n, body, prefix) {
+    match search::search(t, n, body, prefix) {
         Found::Hit(place) => list_from(t, body, place),
         Found::Miss { place, failed: _ } => list_from(t, body, place),
     }

@@ -1,12 +1,12 @@
 // Lookup of one full name in the bytes behind a header.
 ghost use mathlib.Core.Path.{_≡_};
-ghost use Rattle.parse.specs.Class.{classesOf};
+ghost use Rattle.class.specs.Class.{classesOf};
 ghost use Rattle.find.specs.Lookup.{lookupOf, lookupAnswer};
-use crate::search::Found;
 use decode::reference::Fault;
 use decode::reference::Reading;
 use decode::reference::Record;
 use parse::limit::Admission;
+use search::Found;
 
 pub enum Lookup {
     // The record of that name, and where it starts.
@@ -32,7 +32,7 @@ pub fn find(kind: u32, body: &[u8], name: &[u8]) -> LookupAnswer
 {
     match parse::limit::admit(kind, body.len(), name.len()) {
         Admission::Digits(n) => {
-            let t = parse::class::table();
+            let t = class::table();
             LookupAnswer::Done(find_by(&t, n, body, name))
         }
         Admission::UnknownKind => LookupAnswer::UnknownKind,
@@ -47,7 +47,7 @@ pub(crate) fn find_by(t: &[u8; 256], n: usize, body: &[u8], name: &[u8]) -> Look
     if !name::is_valid_by(t, name) {
         return Lookup::BadName;
     }
-    match crate::search::search(t, n, body, name) {
+    match search::search(t, n, body, name) {
         Found::Hit(place) => {
             match decode::reference::reference(
                 t,

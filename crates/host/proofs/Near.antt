@@ -12,33 +12,33 @@ use Rattle.parse.specs.declared.limit.IdKind.the-variants.{Digits}
 use Rattle.parse.specs.declared.limit.Admission.{Admission}
 use Rattle.parse.specs.declared.limit.Admission.the-variants as admission
 use Rattle.parse.specs.Choice.{if}
-use Rattle.parse.specs.Class.{paper}
+use Rattle.class.specs.Class.{paper}
 use Rattle.parse.specs.Limit.{digitsOf, overLimit, admission, admit}
-use Rattle.parse.specs.Prefix.{begins}
+use Rattle.compare.specs.Prefix.{begins}
 use Rattle.name.specs.Name.{validName}
 use Rattle.decode.specs.declared.reference.Record.{Record}
 use Rattle.decode.specs.declared.reference.Reading.{Reading}
 use Rattle.decode.specs.declared.reference.Reading.the-variants as reading
 use Rattle.decode.specs.Record.{recordOf}
-use Rattle.decode.proofs.Headers.{body-inside}
+use Rattle.header.proofs.Headers.{body-inside}
 use Rattle.decode.proofs.Records.{Fits, fits}
 use Rattle.iter.specs.declared.step.Step.the-variants as step
 use Rattle.iter.specs.declared.step.StepAnswer.the-variants as answer
 use Rattle.iter.specs.Items.{nameIn, Item}
 use Rattle.iter.specs.Step.{more, stepBy, stepOf, stepAnswer}
 use Rattle.iter.proofs.Each.{each}
-use Rattle.find.specs.declared.search.Found.{Found}
-use Rattle.find.specs.declared.search.Found.the-variants.{Hit, Miss}
+use Rattle.search.specs.declared.Found.{Found}
+use Rattle.search.specs.declared.Found.the-variants.{Hit, Miss}
 use Rattle.find.specs.declared.lookup.Lookup.the-variants as lookup
 use Rattle.find.specs.declared.lookup.LookupAnswer.the-variants as found
-use Rattle.find.specs.declared.ask.Told.the-variants as told
-use Rattle.find.specs.declared.ask.AskAnswer.the-variants as asked
-use Rattle.find.specs.Search.{searchOf}
+use Rattle.ask.specs.declared.Told.the-variants as told
+use Rattle.ask.specs.declared.AskAnswer.the-variants as asked
+use Rattle.search.specs.Search.{searchOf}
 use Rattle.find.specs.Lookup.{readAt, lookupBy, lookupOf, lookupAnswer}
 use Rattle.find.specs.Listing.{placeOf}
-use Rattle.find.specs.Ask.{askOf, askAnswer}
+use Rattle.ask.specs.Ask.{askOf, askAnswer}
 use Rattle.find.proofs.Places.{search-inside}
-use Rattle.find.proofs.Trusted.{trusted}
+use Rattle.ask.proofs.Trusted.{trusted}
 use Rattle.merge.proofs.Admitted.{admitted}
 
 -- an id has few digits

@@ -3,12 +3,12 @@ use mathlib.Core.List.{List}
 use Prim.Native.Nat.{ℕ}
 use lib.ListN.{length}
 use Rattle.parse.specs.Choice.{if}
-use Rattle.parse.specs.Class.{paper}
+use Rattle.class.specs.Class.{paper}
 use Rattle.parse.specs.Limit.{overLimit}
 use Rattle.name.specs.Name.{validName}
-use Rattle.decode.specs.declared.header.HeaderAnswer.{HeaderAnswer}
-use Rattle.decode.specs.declared.header.HeaderAnswer.the-variants.{Done, Unreadable, TooLarge}
-use Rattle.decode.specs.Header.{headerNumber}
+use Rattle.header.specs.declared.HeaderAnswer.{HeaderAnswer}
+use Rattle.header.specs.declared.HeaderAnswer.the-variants.{Done, Unreadable, TooLarge}
+use Rattle.header.specs.Header.{headerNumber}
 use Rattle.host.specs.declared.head.HeaderReply.{HeaderReply}
 use Rattle.host.specs.Told.{peeledNumber}
 

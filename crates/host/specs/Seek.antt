@@ -6,12 +6,12 @@ use Rattle.find.specs.declared.lookup.LookupAnswer.the-variants.{Done, UnknownK
 use Rattle.find.specs.declared.listing.Listing.the-variants.{From, BadHeader}
 use Rattle.find.specs.declared.listing.ListingAnswer.{ListingAnswer}
 use Rattle.find.specs.declared.listing.ListingAnswer.the-variants as listing
-use Rattle.find.specs.declared.ask.Told.the-variants as told
-use Rattle.find.specs.declared.ask.AskAnswer.{AskAnswer}
-use Rattle.find.specs.declared.ask.AskAnswer.the-variants as ask
+use Rattle.ask.specs.declared.Told.the-variants as told
+use Rattle.ask.specs.declared.AskAnswer.{AskAnswer}
+use Rattle.ask.specs.declared.AskAnswer.the-variants as ask
 use Rattle.find.specs.Lookup.{lookupNumber}
 use Rattle.find.specs.Listing.{listingNumber}
-use Rattle.find.specs.Ask.{askNumber}
+use Rattle.ask.specs.Ask.{askNumber}
 use Rattle.host.specs.declared.seek.LookupReply.{LookupReply}
 use Rattle.host.specs.declared.seek.PrefixReply.{PrefixReply}
 use Rattle.host.specs.declared.seek.AskReply.{AskReply}

@@ -5,8 +5,8 @@ use Rattle.parse.specs.declared.limit.IdKind.{IdKind}
 use Rattle.parse.specs.declared.limit.IdKind.the-variants.{Digits, Unknown}
 use Rattle.parse.specs.Choice.{if}
 use Rattle.parse.specs.Limit.{digitsOf}
-use Rattle.decode.specs.declared.header.Peeled.{Peeled}
-use Rattle.decode.specs.declared.header.Peeled.the-variants.{Unspecified, Partial, Fully}
+use Rattle.header.specs.declared.Peeled.{Peeled}
+use Rattle.header.specs.declared.Peeled.the-variants.{Unspecified, Partial, Fully}
 
 -- the digits of an id; where the kind is unknown there are none
 abbrev pub idLen : IdKind → ℕ

@@ -6,12 +6,12 @@ use Rattle.iter.specs.declared.start.StartAnswer.the-variants.{Done, UnknownKin
 use Rattle.iter.specs.declared.step.Step.the-variants.{End, Good, Error}
 use Rattle.iter.specs.declared.step.StepAnswer.{StepAnswer}
 use Rattle.iter.specs.declared.step.StepAnswer.the-variants as step
-use Rattle.iter.specs.declared.check.Verdict.the-variants as verdict
-use Rattle.iter.specs.declared.check.CheckAnswer.{CheckAnswer}
-use Rattle.iter.specs.declared.check.CheckAnswer.the-variants as check
+use Rattle.checks.specs.declared.Verdict.the-variants as verdict
+use Rattle.checks.specs.declared.CheckAnswer.{CheckAnswer}
+use Rattle.checks.specs.declared.CheckAnswer.the-variants as check
 use Rattle.iter.specs.Start.{startNumber}
 use Rattle.iter.specs.Step.{stepNumber}
-use Rattle.iter.specs.Check.{checkNumber}
+use Rattle.checks.specs.Check.{checkNumber}
 use Rattle.host.specs.declared.walk.StartReply.{StartReply}
 use Rattle.host.specs.declared.walk.StepReply.{StepReply}
 use Rattle.host.specs.declared.walk.CheckReply.{CheckReply}

@@ -1,8 +1,8 @@
 // The header of a file, and the rules of a name.
 ghost use mathlib.Core.Path.{_≡_};
-ghost use Rattle.decode.specs.Header.{headerAnswer};
+ghost use Rattle.header.specs.Header.{headerAnswer};
 ghost use Rattle.host.specs.Head.{headerReply, headerBare, nameNumber};
-use decode::header::HeaderAnswer;
+use header::HeaderAnswer;
 
 #[repr(C)]
 pub struct HeaderReply {
@@ -20,7 +20,7 @@ pub struct HeaderReply {
 pub extern "C" fn packed_refs_header(file: &[u8]) -> HeaderReply
     ensures { λ r. ⌜ r ≡ headerReply (headerAnswer (now (file .entry))) ⌝ }
 {
-    match decode::header::read_header(file) {
+    match header::read_header(file) {
         HeaderAnswer::Done(h) => {
             let peeled = h.peeled;
             HeaderReply {

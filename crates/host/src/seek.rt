@@ -3,10 +3,10 @@ ghost use mathlib.Core.Path.{_≡_};
 ghost use Rattle.decode.specs.Start.{recordStart};
 ghost use Rattle.find.specs.Lookup.{lookupAnswer};
 ghost use Rattle.find.specs.Listing.{listingAnswer};
-ghost use Rattle.find.specs.Ask.{askAnswer};
+ghost use Rattle.ask.specs.Ask.{askAnswer};
 ghost use Rattle.host.specs.Seek.{lookupReply, lookupBare, prefixReply, prefixGives, askReply, askBare};
-use find::ask::AskAnswer;
-use find::ask::Told;
+use ask::AskAnswer;
+use ask::Told;
 use find::listing::Listing;
 use find::listing::ListingAnswer;
 use find::lookup::Lookup;
@@ -123,7 +123,7 @@ pub struct AskReply {
 pub extern "C" fn packed_refs_ask(kind: u32, file: &[u8], name: &[u8]) -> AskReply
     ensures { λ r. ⌜ r ≡ askReply kind (askAnswer kind (now (file .entry)) (now (name .entry))) ⌝ }
 {
-    match find::ask::ask(kind, file, name) {
+    match ask::ask(kind, file, name) {
         AskAnswer::Done(said) => match said {
             Told::Charted { place, found } => AskReply {
                 number: 0,

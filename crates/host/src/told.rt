@@ -4,8 +4,8 @@ ghost use Prim.Native.Nat.{_≤_};
 ghost use Rattle.parse.specs.Choice.{if};
 ghost use Rattle.decode.specs.Record.{faultNumber};
 ghost use Rattle.host.specs.Told.{nameAt, peeledAt, peeledNumber};
-use decode::header::Peeled;
 use decode::reference::Fault;
+use header::Peeled;
 use parse::limit::IdKind;
 
 // Where the name stands of a record that starts at a place: behind the id and one space.

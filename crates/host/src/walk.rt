@@ -3,10 +3,10 @@ ghost use mathlib.Core.Path.{_≡_};
 ghost use mathlib.Core.List.{[]};
 ghost use Rattle.iter.specs.Start.{startAnswer};
 ghost use Rattle.iter.specs.Step.{stepAnswer};
-ghost use Rattle.iter.specs.Check.{checkAnswer};
+ghost use Rattle.checks.specs.Check.{checkAnswer};
 ghost use Rattle.host.specs.Walk.{startReply, startGives, stepReply, stepBare, checkReply, checkGives};
-use iter::check::CheckAnswer;
-use iter::check::Verdict;
+use checks::CheckAnswer;
+use checks::Verdict;
 use iter::start::Start;
 use iter::start::StartAnswer;
 use iter::step::Step;
@@ -156,7 +156,7 @@ pub struct CheckReply {
 pub extern "C" fn packed_refs_check(kind: u32, file: &[u8]) -> CheckReply
     ensures { λ r. ⌜ r ≡ checkReply (checkAnswer kind (now (file .entry))) ⌝ }
 {
-    match iter::check::check(kind, file) {
+    match checks::check(kind, file) {
         CheckAnswer::Done(verdict) => match verdict {
             Verdict::Clean(count) => check_gives(0, 0, count, 0),
             Verdict::BadHeader(text) => check_gives(2, 0, 0, text),

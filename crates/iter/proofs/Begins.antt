@@ -4,11 +4,11 @@ use mathlib.Core.List.{List}
 use Prim.Native.Nat.{ℕ, _≤_}
 use native.Mathlib.Omega.{arith}
 use lib.ListN.{length}
-use Rattle.parse.specs.Class.{Classes}
-use Rattle.decode.specs.declared.header.Opened.{Opened}
-use Rattle.decode.specs.declared.header.Opened.the-variants.{Header, Unreadable}
-use Rattle.decode.specs.Header.{headerOf}
-use Rattle.decode.proofs.Headers.{body-inside}
+use Rattle.class.specs.Class.{Classes}
+use Rattle.header.specs.declared.Opened.{Opened}
+use Rattle.header.specs.declared.Opened.the-variants.{Header, Unreadable}
+use Rattle.header.specs.Header.{headerOf}
+use Rattle.header.proofs.Headers.{body-inside}
 use Rattle.iter.specs.declared.start.Start.the-variants.{At}
 use Rattle.iter.specs.Start.{startBy, startOf}
 

@@ -10,7 +10,7 @@ use lib.ListN.{getD, length, take, drop, length-append, length-drop, drop-of-len
 use lib.Seq.{drop-drop, getD-drop, length-take-le}
 use borrow.Author.Tests.{eqb-true, lt-ltb}
 use Rattle.parse.specs.Choice.{if}
-use Rattle.parse.specs.Class.{Classes, paper}
+use Rattle.class.specs.Class.{Classes, paper}
 use Rattle.parse.specs.Line.{lineLen}
 use Rattle.parse.proofs.Fronts.{lineLen-some}
 use Rattle.decode.specs.declared.reference.Fault.{Fault}
@@ -23,7 +23,7 @@ use Rattle.iter.specs.Items.{Item, coveredBy, sizeOf, itemOf, items, byt
 use Rattle.iter.specs.Stands.{Stands, Lines, one, two, Each, nextPlace, Walks, Tiled}
 use Rattle.iter.specs.Step.{stepBy, stepOf}
 use Rattle.iter.proofs.Items.{items-nil, items-step, some-item, size-le, size-some, tile}
-use Rattle.iter.proofs.Resync.{Covered, line, pair, covered}
+use Rattle.iter.proofs.Covers.{Covered, line, pair, covered}
 
 -- ---- a line with bytes behind it ends with a line feed, so that a line begins behind it
 

@@ -5,7 +5,7 @@ use Prim.Native.Nat.{ℕ, _+_, _≤_, _<_}
 use native.Mathlib.Omega.{arith}
 use lib.ListN.{length, take, drop, length-drop}
 use lib.Seq.{drop-drop, length-take-le}
-use Rattle.parse.specs.Class.{Classes}
+use Rattle.class.specs.Class.{Classes}
 use Rattle.parse.specs.Line.{lineLen}
 use Rattle.parse.proofs.Slices.{part-of-front}
 use Rattle.decode.specs.declared.reference.Fault.{Fault}

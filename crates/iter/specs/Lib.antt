@@ -1,10 +1,5 @@
-pub mod Check
-pub mod CheckMeans
-pub mod Damage
-pub mod Examples
 pub mod Handed
 pub mod Items
-pub mod Passes
 pub mod Stands
 pub mod Start
 pub mod Step

@@ -3,14 +3,16 @@ use mathlib.Core.Path.{_≡_}
 use mathlib.Core.List.{List, [], _∷_, _++_}
 use Prim.Native.Nat.{ℕ, _+_, _≤_, _<_}
 use lib.ListN.{length, take, drop}
-use Rattle.parse.specs.Class.{Classes, paper}
+use Rattle.class.specs.Class.{Classes, paper}
 use Rattle.parse.specs.Line.{lineLen}
 use Rattle.decode.specs.declared.reference.Fault.{Fault}
+use Rattle.decode.specs.declared.reference.Record.{Record}
+use Rattle.decode.specs.declared.reference.Reading.the-variants as reading
 use Rattle.decode.specs.declared.reference.Reading.the-variants.{Bad}
 use Rattle.decode.specs.Start.{lineStart}
 use Rattle.iter.specs.declared.step.Step.{Step}
 use Rattle.iter.specs.declared.step.Step.the-variants.{End, Good, Error}
-use Rattle.iter.specs.Items.{Item, itemOf, items, bytesOf}
+use Rattle.iter.specs.Items.{Item, itemOf, items, nameOf, bytesOf}
 use Rattle.iter.specs.Step.{stepOf}
 
 -- "Without a prefix every byte behind the header lies in exactly one item": the items' bytes, one after another, are all the bytes
@@ -23,6 +25,13 @@ pub record Stands (byte : Classes) (n : ℕ) (s : List ℕ) (place : ℕ) (it : 
   pub after : List Item
   pub all : items byte n s ≡ before ++ it ∷ after
   pub here : length (bytesOf before) ≡ place
+
+-- a record of the name stands there
+pub record Named (n : ℕ) (s name : List ℕ) (place : ℕ) (r : Record) : Type 0 where
+  pub it : Item
+  pub stands : Stands paper n s place it
+  pub good : it .what ≡ reading.Good r
+  pub name-is : nameOf n it ≡ name
 
 -- the bytes b are the first line of t, or its first two
 pub data Lines (t b : List ℕ) : Type 0 where

@@ -4,11 +4,11 @@ use Prim.Native.Nat.{ℕ}
 use lib.Dec.{eqb}
 use lib.ListN.{length, getD}
 use Rattle.parse.specs.Choice.{if}
-use Rattle.parse.specs.Class.{Classes, paper}
+use Rattle.class.specs.Class.{Classes, paper}
 use Rattle.parse.specs.Limit.{admission, admit}
-use Rattle.decode.specs.declared.header.Opened.{Opened}
-use Rattle.decode.specs.declared.header.Opened.the-variants.{Header, Unreadable}
-use Rattle.decode.specs.Header.{headerOf}
+use Rattle.header.specs.declared.Opened.{Opened}
+use Rattle.header.specs.declared.Opened.the-variants.{Header, Unreadable}
+use Rattle.header.specs.Header.{headerOf}
 use Rattle.iter.specs.declared.start.Start.{Start}
 use Rattle.iter.specs.declared.start.Start.the-variants.{At, BadHeader}
 use Rattle.iter.specs.declared.start.StartAnswer.{StartAnswer}

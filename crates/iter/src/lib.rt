@@ -1,5 +1,4 @@
-// Iteration over a file's records, and the check of a whole file.
-pub mod check;
+// Iteration over a file's records.
 pub mod start;
 pub mod step;
 pub mod value;

@@ -1,8 +1,8 @@
 // Where the iteration of a whole file starts.
 ghost use mathlib.Core.Path.{_≡_};
-ghost use Rattle.parse.specs.Class.{classesOf};
+ghost use Rattle.class.specs.Class.{classesOf};
 ghost use Rattle.iter.specs.Start.{startOf, startAnswer, firstItem};
-use decode::header::Opened;
+use header::Opened;
 use parse::limit::Admission;
 
 pub enum Start {
@@ -23,7 +23,7 @@ pub fn begin(kind: u32, file: &[u8]) -> StartAnswer
 {
     match parse::limit::admit(kind, file.len(), 0) {
         Admission::Digits(_) => {
-            let t = parse::class::table();
+            let t = class::table();
             StartAnswer::Done(begin_by(&t, file))
         }
         Admission::UnknownKind => StartAnswer::UnknownKind,
@@ -35,7 +35,7 @@ pub fn begin(kind: u32, file: &[u8]) -> StartAnswer
 pub fn begin_by(t: &[u8; 256], file: &[u8]) -> Start
     ensures { λ r. ⌜ r ≡ startOf (classesOf (now (t .entry))) (now (file .entry)) ⌝ }
 {
-    match decode::header::open(t, file) {
+    match header::open(t, file) {
         Opened::Unreadable(text) => Start::BadHeader(text),
         Opened::Header(h) => Start::At {
             place: h.body,

@@ -1,7 +1,7 @@
 // The plain step of an iteration: bytes, a place and an item number in; what stands there, and the next of both, out.
 ghost use mathlib.Core.Path.{_≡_};
 ghost use mathlib.Core.List.{[]};
-ghost use Rattle.parse.specs.Class.{classesOf};
+ghost use Rattle.class.specs.Class.{classesOf};
 ghost use Rattle.iter.specs.Step.{stepOf, stepAnswer, more};
 use decode::reference::Fault;
 use decode::reference::Reading;
@@ -49,7 +49,7 @@ pub fn next_with_prefix(kind: u32, s: &[u8], prefix: &[u8], place: usize, item: 
 {
     match parse::limit::admit(kind, s.len(), prefix.len()) {
         Admission::Digits(n) => {
-            let t = parse::class::table();
+            let t = class::table();
             StepAnswer::Done(next_by(&t, n, prefix, s, place, item))
         }
         Admission::UnknownKind => StepAnswer::UnknownKind,
@@ -78,7 +78,7 @@ pub(crate) fn next_by(
     match decode::reference::reference(t, rest, n) {
         Reading::Good(found) => {
             let name = decode::reference::name_of(rest, n, found);
-            if !parse::prefix::begins_with(name, prefix) {
+            if !compare::prefix::begins_with(name, prefix) {
                 return Step::End {
                     next: s.len(),
                     item,

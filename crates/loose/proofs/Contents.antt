@@ -6,8 +6,8 @@ use Prim.Native.Nat.{ℕ, _+_, _-_}
 use native.Mathlib.Omega.{arith}
 use lib.ListN.{take, drop}
 use Rattle.parse.specs.Choice.{if}
-use Rattle.parse.specs.Class.{Classes}
-use Rattle.parse.specs.Prefix.{begins}
+use Rattle.class.specs.Class.{Classes}
+use Rattle.compare.specs.Prefix.{begins}
 use Rattle.name.specs.Name.{validName}
 use Rattle.loose.specs.declared.Loose.the-variants.{Id, Symbolic, Unreadable, BadTarget}
 use Rattle.loose.specs.Loose.{refMark, pathStart, pathLen, symbolicOf, fullId, looseOf}

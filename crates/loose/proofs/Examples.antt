@@ -1,6 +1,6 @@
 -- The examples hold: the prover computes them.
 use mathlib.Core.Path.{refl}
-use Rattle.parse.specs.Class.{isHex, isForbidden, isLineEnd}
+use Rattle.class.specs.Class.{isHex, isForbidden, isLineEnd}
 use Rattle.parse.specs.Limit.{digitsOf, overLimit, admission}
 use Rattle.name.specs.Name.{noComponentBeginsWithDot, noLockAtTheEnd, hasSlash, noDotDot, noForbiddenByte, slashesApart, noDotAtTheEnd, noAtBrace, notTheLoneAt, validName}
 use Rattle.loose.specs.Loose.{symbolicOf, looseOf, looseAnswer}

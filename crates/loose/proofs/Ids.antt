@@ -8,7 +8,7 @@ use borrow.Author.Tests.{eq-eqb, ne-eqb}
 use lib.ListN.{length, getD, drop}
 use Rattle.parse.specs.declared.part.Past.the-variants.{At, Unread}
 use Rattle.parse.specs.Choice.{if}
-use Rattle.parse.specs.Class.{Classes}
+use Rattle.class.specs.Class.{Classes}
 use Rattle.parse.specs.Run.{span}
 use Rattle.parse.specs.Id.{idAt}
 use Rattle.parse.proofs.Runs.{span-end, span-stop, span-go}

@@ -5,9 +5,9 @@ use Prim.Native.Nat.{ℕ, _+_}
 use lib.Dec.{eqb}
 use lib.ListN.{length, take, drop}
 use Rattle.parse.specs.Choice.{if}
-use Rattle.parse.specs.Class.{Classes, paper}
+use Rattle.class.specs.Class.{Classes, paper}
 use Rattle.parse.specs.Limit.{admission, admit}
-use Rattle.parse.specs.Prefix.{begins}
+use Rattle.compare.specs.Prefix.{begins}
 use Rattle.parse.specs.Run.{span}
 use Rattle.name.specs.Name.{validName}
 use Rattle.loose.specs.declared.Loose.{Loose}

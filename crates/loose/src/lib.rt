@@ -8,7 +8,7 @@
 ghost use mathlib.Core.Path.{_≡_};
 ghost use Prim.Native.Nat.{_+_};
 ghost use lib.ListN.{take, drop};
-ghost use Rattle.parse.specs.Class.{classesOf};
+ghost use Rattle.class.specs.Class.{classesOf};
 ghost use Rattle.parse.specs.Run.{span};
 ghost use Rattle.loose.specs.Loose.{isSpace, endsPath, pathLen, fullId, looseOf, looseAnswer};
 use parse::limit::Admission;
@@ -38,7 +38,7 @@ pub fn read(kind: u32, content: &[u8]) -> LooseAnswer
 {
     match parse::limit::admit(kind, content.len(), 0) {
         Admission::Digits(n) => {
-            let t = parse::class::table();
+            let t = class::table();
             LooseAnswer::Done(read_by(&t, n, content))
         }
         Admission::UnknownKind => LooseAnswer::UnknownKind,
@@ -50,7 +50,7 @@ pub fn read(kind: u32, content: &[u8]) -> LooseAnswer
 pub(crate) fn read_by(t: &[u8; 256], n: usize, content: &[u8]) -> Loose
     ensures { λ r. ⌜ r ≡ looseOf (classesOf (now (t .entry))) n (now (content .entry)) ⌝ }
 {
-    if parse::prefix::begins_with(content, b"ref: ") {
+    if compare::prefix::begins_with(content, b"ref: ") {
         let from = past_spaces(content, 5);
         let end = path_end(t, content, from);
         if !name::is_valid_by(t, parse::part::between(content, from, end)) {
@@ -106,7 +106,7 @@ fn path_end(t: &[u8; 256], s: &[u8], at: usize) -> usize
 fn ends_path(t: &[u8; 256], b: u8) -> bool
     ensures { λ r. ⌜ r ≡ endsPath (classesOf (now (t .entry))) b ⌝ }
 {
-    (b == 0) | parse::class::is_line_end(t, b)
+    (b == 0) | class::is_line_end(t, b)
 }
 
 // Whether an id of n digits stands at the front, with no further digit behind it.
@@ -119,5 +119,5 @@ fn full_id(t: &[u8; 256], n: usize, s: &[u8]) -> bool
     if s.len() <= end {
         return true;
     }
-    !parse::class::is_hex(t, s[end])
+    !class::is_hex(t, s[end])
 }

@@ -7,23 +7,23 @@ use Prim.Native.Nat.{ℕ, _<_}
 use native.Mathlib.Omega.{arith}
 use lib.ListN.{length, drop}
 use Rattle.parse.specs.Choice.{if}
-use Rattle.parse.specs.Class.{paper}
-use Rattle.parse.proofs.Orders.{order-refl}
+use Rattle.class.specs.Class.{paper}
+use Rattle.compare.proofs.Orders.{order-refl}
 use Rattle.name.specs.Name.{validName}
-use Rattle.decode.specs.declared.header.Header.{Header}
-use Rattle.decode.specs.declared.header.Opened.the-variants as opened
-use Rattle.decode.specs.Header.{headerOf}
-use Rattle.iter.specs.declared.check.Verdict.the-variants.{Clean}
+use Rattle.header.specs.declared.Header.{Header}
+use Rattle.header.specs.declared.Opened.the-variants as opened
+use Rattle.header.specs.Header.{headerOf}
+use Rattle.checks.specs.declared.Verdict.the-variants.{Clean}
 use Rattle.iter.specs.Items.{Item, items, bytesOf, nameOf}
-use Rattle.iter.specs.Check.{checkOf}
-use Rattle.iter.specs.Passes.{Passes}
+use Rattle.checks.specs.Check.{checkOf}
+use Rattle.checks.specs.Passes.{Passes}
 use Rattle.iter.specs.Stands.{Stands}
-use Rattle.iter.proofs.CheckMeans.{check-means}
+use Rattle.checks.proofs.CheckMeans.{check-means}
 use Rattle.iter.proofs.Each.{each}
 use Rattle.find.specs.Present.{FoundExactly}
 use Rattle.find.proofs.Found.{good-record, found-exactly}
 use Rattle.find.proofs.ItemAt.{stands-good}
-use Rattle.sort.specs.Order.{same}
+use Rattle.places.specs.Order.{same}
 use Rattle.merge.specs.Entry.{Entry, entryOf, entriesOf}
 use Rattle.merge.specs.Theorems.{entryNamed, Shows, Tells}
 use Rattle.merge.proofs.Overriding.{same-is}

@@ -8,18 +8,18 @@ use lib.Dec.{ltb}
 use lib.ListN.{length, getD}
 use lib.Seq.{take-length}
 use borrow.Author.Tests.{ltb-false}
-use Rattle.parse.specs.declared.order.Order.the-variants.{Less}
+use Rattle.compare.specs.declared.order.Order.the-variants.{Less}
 use Rattle.parse.specs.Choice.{if}
-use Rattle.parse.specs.Class.{Classes, paper}
+use Rattle.class.specs.Class.{Classes, paper}
 use Rattle.parse.specs.Limit.{overLimit}
-use Rattle.parse.specs.Order.{orderOf}
+use Rattle.compare.specs.Order.{orderOf}
 use Rattle.name.specs.Name.{validName}
 use Rattle.name.proofs.Laws.{not-empty}
-use Rattle.sort.specs.declared.name.Layout.the-variants.{Edit}
+use Rattle.places.specs.declared.name.Layout.the-variants.{Edit}
 use Rattle.sort.specs.declared.twin.Twin.{Twin}
 use Rattle.sort.specs.declared.twin.Twin.the-variants.{At, Nothing}
-use Rattle.sort.specs.Name.{nameOf, editName}
-use Rattle.sort.specs.Order.{comesFirst}
+use Rattle.places.specs.Name.{nameOf, editName}
+use Rattle.places.specs.Order.{comesFirst}
 use Rattle.sort.specs.Twin.{firstTwin}
 use Rattle.sort.proofs.Pairs.{Each, each-map, Pairs, pairs-by}
 use Rattle.sort.proofs.Sorting.{each-sorted}

@@ -9,20 +9,20 @@ use lib.Dec.{ltb}
 use lib.ListN.{length, getD, take, drop, length-drop}
 use lib.Seq.{length-take-le, drop-drop, getD-take, getD-drop}
 use Rattle.parse.specs.Choice.{if}
-use Rattle.parse.specs.Class.{Classes, paper}
+use Rattle.class.specs.Class.{Classes, paper}
 use Rattle.name.specs.Name.{validName}
-use Rattle.sort.specs.Name.{editName}
+use Rattle.places.specs.Name.{editName}
 use Rattle.sort.proofs.Pairs.{Each}
-use Rattle.edit.specs.declared.change.Change.{Change}
-use Rattle.edit.specs.declared.change.Reading.{Reading}
-use Rattle.edit.specs.declared.change.Reading.the-variants.{Good, Malformed, BadName}
-use Rattle.edit.specs.declared.change.Length.the-variants as long
-use Rattle.edit.specs.Change.{lengthAt, idBytes, changeOf, behindName}
+use Rattle.change.specs.declared.Change.{Change}
+use Rattle.change.specs.declared.Reading.{Reading}
+use Rattle.change.specs.declared.Reading.the-variants.{Good, Malformed, BadName}
+use Rattle.change.specs.declared.Length.the-variants as long
+use Rattle.change.specs.Change.{lengthAt, idBytes, changeOf, behindName}
 use Rattle.edit.specs.List.{Listed, all, malformed, badName, tooMany, onto, listedBy, editsFrom, editsOf}
 use Rattle.put.specs.Text.{hexText}
 use Rattle.put.proofs.Laws.{length-hex, hex-is-hex}
 use Rattle.merge.specs.Entry.{newOf, editAt}
-use Rattle.edit.proofs.Parts.{length-there, name-there, behind-there, Whole, good-whole}
+use Rattle.change.proofs.Parts.{length-there, name-there, behind-there, Whole, good-whole}
 use Rattle.merge.proofs.Entries.{Digits, AllOf}
 
 -- ---- a list that has no fault: at each place a good edit stands, and there are no more of them than turns

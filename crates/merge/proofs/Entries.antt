@@ -5,9 +5,9 @@ use mathlib.Core.List.{List, [], _∷_}
 use mathlib.Core.Option.{Option, none, some}
 use Prim.Native.Nat.{ℕ, _<_}
 use lib.ListN.{length, getD}
-use Rattle.parse.specs.declared.order.Order.the-variants.{Less}
-use Rattle.parse.specs.Class.{paper, isHex}
-use Rattle.parse.specs.Order.{orderOf}
+use Rattle.compare.specs.declared.order.Order.the-variants.{Less}
+use Rattle.class.specs.Class.{paper, isHex}
+use Rattle.compare.specs.Order.{orderOf}
 use Rattle.name.specs.Name.{validName}
 use Rattle.merge.specs.Entry.{Entry, Edit}
 

@@ -1,21 +1,21 @@
 -- Document 01's worked merge and the cases beside it: the prover computes every one.
 use mathlib.Core.Path.{_≡_, refl}
 use mathlib.Core.List.{[], _∷_}
-use Rattle.parse.specs.Class.{isHex, isForbidden, isLineEnd}
+use Rattle.class.specs.Class.{isHex, isForbidden, isLineEnd}
 use Rattle.parse.specs.Id.{idAt}
 use Rattle.parse.specs.Limit.{digitsOf, overLimit, admission}
 use Rattle.parse.specs.Line.{eol, newlineAt, textAt}
 use Rattle.parse.specs.Part.{byteAt}
 use Rattle.name.specs.Name.{noComponentBeginsWithDot, noLockAtTheEnd, hasSlash, noDotDot, noForbiddenByte, slashesApart, noDotAtTheEnd, noAtBrace, notTheLoneAt, validName}
-use Rattle.decode.specs.Header.{noted, firstLine, headerOf}
+use Rattle.header.specs.Header.{noted, firstLine, headerOf}
 use Rattle.decode.specs.Record.{recordOf}
-use Rattle.iter.specs.Check.{judgeBody, checkOf}
+use Rattle.checks.specs.Check.{judgeBody, checkOf}
 use Rattle.iter.specs.Items.{sizeOf, itemsBehind, items}
-use Rattle.sort.specs.Name.{editName}
-use Rattle.sort.specs.Order.{before}
+use Rattle.places.specs.Name.{editName}
+use Rattle.places.specs.Order.{before}
 use Rattle.sort.specs.Sorted.{sorted}
 use Rattle.sort.specs.Twin.{firstTwin}
-use Rattle.edit.specs.Change.{lengthAt, changeOf, namedChange, behindName}
+use Rattle.change.specs.Change.{lengthAt, changeOf, namedChange, behindName}
 use Rattle.edit.specs.List.{editsFrom, editsOf, twinsOf, preparedOf, indexAfter}
 use Rattle.put.specs.Text.{hexDigit}
 use Rattle.merge.specs.Merge.{newFile, finished, oldEntries, judged, editsInOrder, mergeOf, mergeAnswer, outputAfter, indexAnswer}

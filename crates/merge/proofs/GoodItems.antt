@@ -5,10 +5,10 @@ use mathlib.Core.List.{List, [], _∷_}
 use Prim.Native.Nat.{ℕ, zero, suc, _-_, _≤_}
 use native.Mathlib.Omega.{arith}
 use lib.ListN.{length, drop, length-drop}
-use Rattle.parse.specs.Class.{paper}
+use Rattle.class.specs.Class.{paper}
 use Rattle.decode.specs.Record.{recordOf}
 use Rattle.iter.specs.Items.{Item, sizeOf, itemOf, items}
-use Rattle.iter.specs.Passes.{isGood, allGood}
+use Rattle.checks.specs.Passes.{isGood, allGood}
 use Rattle.iter.proofs.Items.{size-some, items-nil, items-step}
 
 abbrev pub Each : (Item → Type 0) → List Item → Type 0

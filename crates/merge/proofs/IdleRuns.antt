@@ -8,20 +8,20 @@ use lib.Dec.{eqb}
 use lib.ListN.{getD, length, drop}
 use lib.Seq.{take-nil, drop-nil}
 use borrow.Author.Tests.{eq-eqb, ne-eqb}
-use Rattle.parse.specs.declared.order.Order.{Order}
-use Rattle.parse.specs.declared.order.Order.the-variants.{Less, Equal, Greater}
-use Rattle.parse.specs.Class.{paper}
-use Rattle.parse.specs.Order.{orderOf}
-use Rattle.parse.proofs.Orders.{greater-flip, less-trans}
+use Rattle.compare.specs.declared.order.Order.{Order}
+use Rattle.compare.specs.declared.order.Order.the-variants.{Less, Equal, Greater}
+use Rattle.class.specs.Class.{paper}
+use Rattle.compare.specs.Order.{orderOf}
+use Rattle.compare.proofs.Orders.{greater-flip, less-trans}
 use Rattle.decode.specs.declared.reference.Reading.{Reading}
 use Rattle.decode.specs.declared.reference.Reading.the-variants.{Good, Bad}
-use Rattle.iter.specs.declared.check.Verdict.the-variants.{Clean}
+use Rattle.checks.specs.declared.Verdict.the-variants.{Clean}
 use Rattle.iter.specs.Items.{Item, items, nameIn, nameOf}
-use Rattle.iter.specs.Check.{judgeBody}
-use Rattle.iter.specs.Passes.{ascending}
-use Rattle.iter.proofs.Passes.{judged}
-use Rattle.sort.specs.Name.{editName}
-use Rattle.edit.specs.Change.{behindName}
+use Rattle.checks.specs.Check.{judgeBody}
+use Rattle.checks.specs.Passes.{ascending}
+use Rattle.checks.proofs.Passes.{judged}
+use Rattle.places.specs.Name.{editName}
+use Rattle.change.specs.Change.{behindName}
 use Rattle.put.specs.Put.{over}
 use Rattle.put.proofs.Laws.{over-fits}
 use Rattle.merge.specs.Entry.{Entry, newOf, entryOf, entriesOf, editsAt}

@@ -6,9 +6,9 @@ use native.Mathlib.Numerals.{add-one}
 use native.Mathlib.Omega.{arith}
 use lib.ListN.{getD, length, drop, drop-of-length-le}
 use lib.Seq.{drop-cons}
-use Rattle.parse.specs.declared.order.Order.the-variants.{Less, Equal, Greater}
-use Rattle.parse.specs.Order.{orderOf}
-use Rattle.sort.specs.Name.{editName}
+use Rattle.compare.specs.declared.order.Order.the-variants.{Less, Equal, Greater}
+use Rattle.compare.specs.Order.{orderOf}
+use Rattle.places.specs.Name.{editName}
 use Rattle.put.specs.Put.{over}
 use Rattle.put.proofs.Laws.{over-nil, over-twice}
 use Rattle.merge.specs.Runs.{Run, run, settles, atEnd, marksOf}

@@ -5,17 +5,17 @@ use Prim.Native.Nat.{ℕ, _+_, _*_, _-_, _≤_}
 use native.Mathlib.Omega.{arith}
 use lib.ListN.{length, take, drop, take-append-drop}
 use lib.Seq.{take-add, drop-drop, take-append-seam, drop-append-seam}
-use Rattle.parse.specs.declared.order.Order.{Order}
-use Rattle.parse.specs.declared.order.Order.the-variants.{Less, Equal, Greater}
-use Rattle.parse.specs.Class.{paper}
-use Rattle.parse.specs.Order.{orderOf}
-use Rattle.iter.specs.declared.check.Verdict.the-variants.{Clean}
+use Rattle.compare.specs.declared.order.Order.{Order}
+use Rattle.compare.specs.declared.order.Order.the-variants.{Less, Equal, Greater}
+use Rattle.class.specs.Class.{paper}
+use Rattle.compare.specs.Order.{orderOf}
+use Rattle.checks.specs.declared.Verdict.the-variants.{Clean}
 use Rattle.iter.specs.Items.{Item, items, nameOf, bytesOf}
-use Rattle.iter.specs.Check.{judgeBody}
-use Rattle.iter.specs.Passes.{Passes}
+use Rattle.checks.specs.Check.{judgeBody}
+use Rattle.checks.specs.Passes.{Passes}
 use Rattle.iter.proofs.Items.{tile}
-use Rattle.iter.proofs.Passes.{judged}
-use Rattle.sort.specs.Name.{editName}
+use Rattle.checks.proofs.Passes.{judged}
+use Rattle.places.specs.Name.{editName}
 use Rattle.put.specs.Put.{over}
 use Rattle.put.specs.Text.{withoutCR}
 use Rattle.put.proofs.Laws.{over-fits, without-append}

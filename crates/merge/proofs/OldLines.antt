@@ -9,7 +9,7 @@ use native.Mathlib.Omega.{arith}
 use lib.ListN.{getD, take, drop}
 use lib.Seq.{take-take, take-add}
 use borrow.Author.Tests.{ne-eqb}
-use Rattle.parse.specs.Class.{paper, isHex, isLineEnd}
+use Rattle.class.specs.Class.{paper, isHex, isLineEnd}
 use Rattle.parse.specs.Run.{span}
 use Rattle.parse.specs.Line.{eol}
 use Rattle.parse.proofs.Fronts.{at-drop, Eol, lf, crlf, eol-view}
@@ -22,7 +22,7 @@ use Rattle.decode.specs.declared.reference.Reading.the-variants.{Good}
 use Rattle.decode.specs.Record.{recordOf}
 use Rattle.decode.proofs.Records.{nameLen, afterName, headLen, peelLen, Head, Peel, View, is-bad, plain, peeled, view, fits}
 use Rattle.iter.specs.Items.{Item, sizeOf, itemOf, items, nameOf}
-use Rattle.iter.specs.Passes.{isGood, allGood}
+use Rattle.checks.specs.Passes.{isGood, allGood}
 use Rattle.iter.proofs.Items.{size-good}
 use Rattle.iter.proofs.Turns.{item-name}
 use Rattle.put.specs.Text.{notCR, withoutCR}

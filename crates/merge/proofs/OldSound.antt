@@ -8,7 +8,7 @@ use native.Mathlib.Omega.{arith}
 use lib.ListN.{getD, take, drop}
 use lib.Seq.{take-take, drop-drop, length-take-le, getD-take}
 use Rattle.parse.specs.Choice.{if}
-use Rattle.parse.specs.Class.{paper, isHex}
+use Rattle.class.specs.Class.{paper, isHex}
 use Rattle.parse.specs.Run.{span}
 use Rattle.parse.proofs.Runs.{span-le}
 use Rattle.parse.proofs.Slices.{part-of-front}
@@ -18,7 +18,7 @@ use Rattle.decode.specs.declared.reference.Reading.the-variants.{Good}
 use Rattle.decode.specs.Record.{recordOf}
 use Rattle.decode.proofs.Records.{nameLen, headLen, peelLen, Head, Peel, View, is-bad, plain, peeled, view, fits}
 use Rattle.iter.specs.Items.{Item, sizeOf, itemOf, items, nameOf}
-use Rattle.iter.specs.Passes.{isGood, allGood, ascending}
+use Rattle.checks.specs.Passes.{isGood, allGood, ascending}
 use Rattle.iter.proofs.Items.{size-good}
 use Rattle.iter.proofs.Turns.{item-name}
 use Rattle.merge.specs.Entry.{entryOf, entriesOf}

@@ -4,12 +4,12 @@ use mathlib.Core.Bool.{Bool, true, false}
 use mathlib.Core.List.{List, [], _∷_, _++_}
 use mathlib.Core.Option.{Option, none, some}
 use Prim.Native.Nat.{ℕ}
-use Rattle.parse.specs.declared.order.Order.{Order}
-use Rattle.parse.specs.declared.order.Order.the-variants.{Less, Equal, Greater}
+use Rattle.compare.specs.declared.order.Order.{Order}
+use Rattle.compare.specs.declared.order.Order.the-variants.{Less, Equal, Greater}
 use Rattle.parse.specs.Choice.{if}
-use Rattle.parse.specs.Order.{orderOf}
-use Rattle.parse.proofs.Orders.{order-equal, less-flip, greater-flip, less-trans}
-use Rattle.sort.specs.Order.{isEqual, same}
+use Rattle.compare.specs.Order.{orderOf}
+use Rattle.compare.proofs.Orders.{order-equal, less-flip, greater-flip, less-trans}
+use Rattle.places.specs.Order.{isEqual, same}
 use Rattle.merge.specs.Entry.{Entry, Edit}
 use Rattle.merge.specs.Merge.{byOrder, overridden}
 use Rattle.merge.specs.Theorems.{entryNamed, leftBy, afterEdits}

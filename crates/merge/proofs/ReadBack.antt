@@ -8,7 +8,7 @@ use native.Mathlib.Numerals.{add-one}
 use native.Mathlib.Omega.{arith}
 use lib.ListN.{getD, length, take, drop, length-append}
 use lib.Seq.{take-at, take-append-seam}
-use Rattle.parse.specs.Class.{paper}
+use Rattle.class.specs.Class.{paper}
 use Rattle.name.specs.Name.{validName}
 use Rattle.decode.specs.declared.reference.Record.{Record}
 use Rattle.decode.specs.declared.reference.Reading.the-variants.{Good}

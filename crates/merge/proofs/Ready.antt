@@ -8,12 +8,12 @@ use lib.ListN.{length, take, drop}
 use lib.Seq.{take-at}
 use borrow.Author.Tests.{le-ltb}
 use Rattle.parse.specs.Choice.{if}
-use Rattle.parse.specs.Class.{Classes}
+use Rattle.class.specs.Class.{Classes}
 use Rattle.parse.specs.Limit.{overLimit}
-use Rattle.decode.specs.declared.header.Header.{Header}
-use Rattle.decode.specs.declared.header.Opened.the-variants as opened
-use Rattle.decode.specs.Header.{headerOf}
-use Rattle.iter.specs.Check.{judgeBody, checkOf}
+use Rattle.header.specs.declared.Header.{Header}
+use Rattle.header.specs.declared.Opened.the-variants as opened
+use Rattle.header.specs.Header.{headerOf}
+use Rattle.checks.specs.Check.{judgeBody, checkOf}
 use Rattle.iter.specs.Items.{items}
 use Rattle.edit.specs.declared.list.Prepared.{Prepared}
 use Rattle.edit.specs.declared.list.Prepared.the-variants.{Ready, TooLarge}

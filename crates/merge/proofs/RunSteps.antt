@@ -4,10 +4,10 @@ use mathlib.Core.List.{List, [], _∷_}
 use Prim.Native.Nat.{ℕ, suc, _+_}
 use native.Mathlib.Omega.{arith}
 use lib.ListN.{length, drop, length-append, length-drop}
-use Rattle.parse.specs.declared.order.Order.the-variants.{Less, Equal, Greater}
-use Rattle.parse.specs.Order.{orderOf}
+use Rattle.compare.specs.declared.order.Order.the-variants.{Less, Equal, Greater}
+use Rattle.compare.specs.Order.{orderOf}
 use Rattle.iter.specs.Items.{Item, nameOf}
-use Rattle.sort.specs.Name.{editName}
+use Rattle.places.specs.Name.{editName}
 use Rattle.merge.specs.Runs.{run, settles, atEnd, runsOf}
 use Rattle.merge.proofs.RunTurns.{settles-le}
 

@@ -5,10 +5,10 @@ use Prim.Native.Nat.{ℕ, _+_, _*_, _≤_}
 use native.Mathlib.Omega.{arith}
 use lib.ListN.{length, drop, drop-of-length-le}
 use lib.Seq.{drop-drop}
-use Rattle.parse.specs.declared.order.Order.{Order}
-use Rattle.parse.specs.declared.order.Order.the-variants.{Less, Equal, Greater}
-use Rattle.parse.specs.Class.{Classes}
-use Rattle.parse.specs.Order.{orderOf}
+use Rattle.compare.specs.declared.order.Order.{Order}
+use Rattle.compare.specs.declared.order.Order.the-variants.{Less, Equal, Greater}
+use Rattle.class.specs.Class.{Classes}
+use Rattle.compare.specs.Order.{orderOf}
 use Rattle.decode.specs.declared.reference.Record.{Record}
 use Rattle.decode.specs.declared.reference.Reading.the-variants.{Good}
 use Rattle.iter.specs.Items.{items, nameIn}
@@ -17,7 +17,7 @@ use Rattle.iter.proofs.Items.{items-nil}
 use Rattle.iter.proofs.Turns.{head-good}
 use Rattle.put.specs.Put.{over}
 use Rattle.put.proofs.Laws.{over-twice}
-use Rattle.sort.specs.Name.{editName}
+use Rattle.places.specs.Name.{editName}
 use Rattle.merge.specs.Merge.{byOrder}
 use Rattle.merge.specs.Runs.{Run, run, settles, atEnd, runsOf, marksOf}
 

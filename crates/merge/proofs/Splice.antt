@@ -10,8 +10,8 @@ use lib.Dec.{ltb}
 use lib.ListN.{length, getD, take, drop, length-append, length-take, length-drop, drop-of-length-le}
 use lib.Seq.{drop-cons, drop-drop, getD-drop}
 use Rattle.parse.specs.Choice.{if}
-use Rattle.sort.specs.Name.{editName}
-use Rattle.edit.specs.Change.{behindName}
+use Rattle.places.specs.Name.{editName}
+use Rattle.change.specs.Change.{behindName}
 use Rattle.put.specs.Put.{over}
 use Rattle.put.specs.Text.{hexText, withoutCR}
 use Rattle.put.proofs.Laws.{over-twice, length-hex, length-without}

@@ -4,14 +4,14 @@ use mathlib.Core.List.{List, []}
 use Prim.Native.Nat.{ℕ, _<_}
 use native.Mathlib.Omega.{arith}
 use lib.ListN.{drop}
-use Rattle.parse.specs.Class.{paper}
-use Rattle.iter.specs.declared.check.Verdict.{Verdict}
-use Rattle.iter.specs.declared.check.Verdict.the-variants as verdict
-use Rattle.iter.specs.Check.{checkOf}
-use Rattle.iter.specs.CheckMeans.{Body}
+use Rattle.class.specs.Class.{paper}
+use Rattle.checks.specs.declared.Verdict.{Verdict}
+use Rattle.checks.specs.declared.Verdict.the-variants as verdict
+use Rattle.checks.specs.Check.{checkOf}
+use Rattle.checks.specs.CheckMeans.{Body}
 use Rattle.iter.specs.Items.{items}
-use Rattle.iter.specs.Passes.{Passes}
-use Rattle.iter.proofs.CheckMeans.{check-means}
+use Rattle.checks.specs.Passes.{Passes}
+use Rattle.checks.proofs.CheckMeans.{check-means}
 use Rattle.edit.specs.declared.list.Prepared.{Prepared}
 use Rattle.edit.specs.declared.list.Prepared.the-variants as prepared
 use Rattle.edit.specs.List.{editsOf, placesOf, preparedOf}

@@ -4,14 +4,14 @@ use mathlib.Core.Bool.{true}
 use mathlib.Core.List.{List, [], _∷_, _++_}
 use Prim.Native.Nat.{ℕ, suc, _<_}
 use lib.ListN.{length}
-use Rattle.parse.specs.Class.{paper}
+use Rattle.class.specs.Class.{paper}
 use Rattle.name.specs.Name.{validName}
-use Rattle.iter.specs.declared.check.Verdict.the-variants.{Clean}
+use Rattle.checks.specs.declared.Verdict.the-variants.{Clean}
 use Rattle.iter.specs.Items.{items}
-use Rattle.iter.specs.Check.{checkOf}
-use Rattle.iter.specs.Passes.{allGood, ascending, Passes}
-use Rattle.iter.proofs.Passes.{judges}
-use Rattle.iter.proofs.CheckMeans.{read}
+use Rattle.checks.specs.Check.{checkOf}
+use Rattle.checks.specs.Passes.{allGood, ascending, Passes}
+use Rattle.checks.proofs.Passes.{judges}
+use Rattle.checks.proofs.CheckMeans.{read}
 use Rattle.merge.specs.Entry.{Entry, linesOfAll}
 use Rattle.merge.specs.Merge.{headerLine}
 use Rattle.merge.specs.Theorems.{entryNamed, Tells}

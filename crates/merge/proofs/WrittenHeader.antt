@@ -4,11 +4,11 @@ use mathlib.Core.Bool.{true}
 use mathlib.Core.List.{List, _++_}
 use Prim.Native.Nat.{ℕ}
 use lib.ListN.{drop}
-use Rattle.parse.specs.Class.{paper, isLineEnd}
+use Rattle.class.specs.Class.{paper, isLineEnd}
 use Rattle.parse.specs.Line.{eol, newlineAt, textAt}
-use Rattle.decode.specs.declared.header.Peeled.the-variants.{Fully}
-use Rattle.decode.specs.declared.header.Opened.the-variants.{Header}
-use Rattle.decode.specs.Header.{noted, headerOf}
+use Rattle.header.specs.declared.Peeled.the-variants.{Fully}
+use Rattle.header.specs.declared.Opened.the-variants.{Header}
+use Rattle.header.specs.Header.{noted, headerOf}
 use Rattle.merge.specs.Merge.{headerLine}
 
 pub written-header : (s : List ℕ) → headerOf paper (headerLine ++ s) ≡ Header (record { peeled = Fully; sorted = true; body = 46 })

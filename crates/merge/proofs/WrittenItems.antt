@@ -6,7 +6,7 @@ use Prim.Native.Nat.{ℕ, _<_}
 use native.Mathlib.Omega.{arith}
 use lib.ListN.{getD, length, length-append}
 use lib.Seq.{take-append-seam, drop-append-seam}
-use Rattle.parse.specs.Class.{paper, isHex}
+use Rattle.class.specs.Class.{paper, isHex}
 use Rattle.decode.specs.declared.reference.Reading.the-variants.{Good}
 use Rattle.decode.specs.Record.{recordOf}
 use Rattle.iter.specs.Items.{Item, sizeOf, items}

@@ -6,7 +6,7 @@ use Prim.Native.Nat.{ℕ, suc, _+_, _<_}
 use native.Mathlib.Omega.{arith}
 use lib.ListN.{getD, length, take, drop}
 use lib.Seq.{drop-append-add, take-append-seam, drop-append-seam, getD-drop, drop-drop, drop-at, getD-at}
-use Rattle.parse.specs.Class.{paper, isHex, isLineEnd}
+use Rattle.class.specs.Class.{paper, isHex, isLineEnd}
 use Rattle.parse.specs.Run.{span}
 use Rattle.parse.specs.Line.{eol, textLen}
 use Rattle.name.specs.Name.{validName}

@@ -6,8 +6,8 @@ use lib.ListN.{getD, take, drop}
 use Rattle.decode.specs.declared.reference.Reading.{Reading}
 use Rattle.decode.specs.declared.reference.Reading.the-variants.{Good, Bad}
 use Rattle.iter.specs.Items.{Item, nameOf}
-use Rattle.sort.specs.Name.{editName}
-use Rattle.edit.specs.Change.{behindName}
+use Rattle.places.specs.Name.{editName}
+use Rattle.change.specs.Change.{behindName}
 use Rattle.put.specs.Text.{hexText}
 
 -- a record: its name, its id, and its peeled id if it has one, both in digits

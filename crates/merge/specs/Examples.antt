@@ -3,7 +3,7 @@ use mathlib.Core.List.{List, [], _∷_, _++_}
 use Prim.Native.Nat.{ℕ}
 use lib.ListN.{length, replicate}
 use Rattle.decode.specs.declared.reference.Fault.the-variants.{Id}
-use Rattle.decode.specs.Header.{mark}
+use Rattle.header.specs.Header.{mark}
 use Rattle.merge.specs.declared.Merged.{Merged}
 use Rattle.merge.specs.declared.Merged.the-variants.{Done, UnknownKind, TooLarge, Malformed, BadName, TooMany, ShortIndex, Twins, BadHeader, BadRecord, Unsorted, NothingToDo, NoRecord, ShortOutput}
 use Rattle.merge.specs.Merge.{headerLine, mergeAnswer, mergeNumber, indexAnswer, outputAfter}

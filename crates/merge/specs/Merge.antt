@@ -4,21 +4,21 @@ use mathlib.Core.List.{List, [], _∷_, _++_}
 use Prim.Native.Nat.{ℕ}
 use lib.Dec.{ltb}
 use lib.ListN.{length, drop}
-use Rattle.parse.specs.declared.order.Order.{Order}
-use Rattle.parse.specs.declared.order.Order.the-variants.{Less, Equal, Greater}
+use Rattle.compare.specs.declared.order.Order.{Order}
+use Rattle.compare.specs.declared.order.Order.the-variants.{Less, Equal, Greater}
 use Rattle.parse.specs.Choice.{if}
-use Rattle.parse.specs.Class.{Classes, paper}
+use Rattle.class.specs.Class.{Classes, paper}
 use Rattle.parse.specs.Limit.{admission, admit}
-use Rattle.parse.specs.Order.{orderOf}
-use Rattle.decode.specs.declared.header.Opened.{Opened}
-use Rattle.decode.specs.declared.header.Opened.the-variants.{Header, Unreadable}
-use Rattle.decode.specs.Header.{headerOf}
+use Rattle.compare.specs.Order.{orderOf}
+use Rattle.header.specs.declared.Opened.{Opened}
+use Rattle.header.specs.declared.Opened.the-variants.{Header, Unreadable}
+use Rattle.header.specs.Header.{headerOf}
 use Rattle.decode.specs.Record.{faultNumber}
-use Rattle.iter.specs.declared.check.Verdict.{Verdict}
-use Rattle.iter.specs.declared.check.Verdict.the-variants as verdict
-use Rattle.iter.specs.Check.{checkOf}
+use Rattle.checks.specs.declared.Verdict.{Verdict}
+use Rattle.checks.specs.declared.Verdict.the-variants as verdict
+use Rattle.checks.specs.Check.{checkOf}
 use Rattle.iter.specs.Items.{items}
-use Rattle.sort.specs.Order.{same}
+use Rattle.places.specs.Order.{same}
 use Rattle.edit.specs.declared.list.Prepared.{Prepared}
 use Rattle.edit.specs.declared.list.Prepared.the-variants as prepared
 use Rattle.edit.specs.List.{editsOf, placesOf, inOrder, preparedOf, indexAfter}

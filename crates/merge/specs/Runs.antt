@@ -6,11 +6,11 @@ use mathlib.Core.List.{List, [], _∷_, _++_}
 use Prim.Native.Nat.{ℕ, _+_, _-_}
 use lib.Dec.{eqb, ltb}
 use lib.ListN.{getD, length, take, drop}
-use Rattle.parse.specs.declared.order.Order.the-variants.{Less}
+use Rattle.compare.specs.declared.order.Order.the-variants.{Less}
 use Rattle.parse.specs.Choice.{if}
-use Rattle.parse.specs.Order.{orderOf}
+use Rattle.compare.specs.Order.{orderOf}
 use Rattle.iter.specs.Items.{Item, nameOf}
-use Rattle.sort.specs.Name.{editName}
+use Rattle.places.specs.Name.{editName}
 use Rattle.put.specs.Text.{withoutCR}
 use Rattle.merge.specs.declared.Merged.{Merged}
 use Rattle.merge.specs.declared.Merged.the-variants.{Done, NothingToDo, NoRecord, ShortOutput}

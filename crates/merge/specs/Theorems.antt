@@ -6,18 +6,18 @@ use mathlib.Core.Option.{Option, none, some}
 use Prim.Native.Nat.{ℕ, _*_, _<_}
 use lib.ListN.{length, getD, drop}
 use Rattle.parse.specs.Choice.{if}
-use Rattle.parse.specs.Class.{paper}
+use Rattle.class.specs.Class.{paper}
 use Rattle.name.specs.Name.{validName}
 use Rattle.decode.specs.declared.reference.Record.{Record}
-use Rattle.decode.specs.declared.header.Peeled.the-variants.{Fully}
-use Rattle.decode.specs.declared.header.Opened.the-variants.{Header}
-use Rattle.decode.specs.Header.{headerOf}
-use Rattle.iter.specs.declared.check.Verdict.the-variants.{Clean}
-use Rattle.iter.specs.Check.{checkOf}
+use Rattle.header.specs.declared.Peeled.the-variants.{Fully}
+use Rattle.header.specs.declared.Opened.the-variants.{Header}
+use Rattle.header.specs.Header.{headerOf}
+use Rattle.checks.specs.declared.Verdict.the-variants.{Clean}
+use Rattle.checks.specs.Check.{checkOf}
 use Rattle.iter.specs.Items.{itemOf, items}
 use Rattle.find.specs.declared.lookup.Lookup.the-variants.{Charted, Absent}
 use Rattle.find.specs.Lookup.{lookupOf}
-use Rattle.sort.specs.Order.{same}
+use Rattle.places.specs.Order.{same}
 use Rattle.merge.specs.declared.Merged.the-variants.{Done}
 use Rattle.merge.specs.Entry.{Entry, Edit, entryOf, entriesOf}
 use Rattle.merge.specs.Merge.{overridden, newFile, oldEntries, editsInOrder, mergeOf}

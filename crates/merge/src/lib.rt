@@ -6,17 +6,17 @@
 ghost use mathlib.Core.Path.{_≡_};
 ghost use Prim.Native.Nat.{_+_, _*_, _≤_};
 ghost use lib.ListN.{length, drop};
-ghost use Rattle.parse.specs.Class.{paper, classTable};
-ghost use Rattle.iter.specs.Check.{judgeBody};
+ghost use Rattle.class.specs.Class.{paper, classTable};
+ghost use Rattle.checks.specs.Check.{judgeBody};
 ghost use Rattle.iter.specs.Items.{items};
 ghost use Rattle.edit.specs.List.{indexAfter};
 ghost use Rattle.merge.specs.Entry.{entriesOf, editsAt};
 ghost use Rattle.merge.specs.Merge.{mergeAnswer, outputAfter, indexAnswer, mergeOf, outputBy, newFile, oldEntries, editsInOrder, judged, judgedBy};
 ghost use Rattle.merge.specs.Runs.{splicedFile, splicedAnswer, isStill, Rising};
-use decode::header::Opened;
+use checks::Verdict;
 use decode::reference::Fault;
 use edit::list::Prepared;
-use iter::check::Verdict;
+use header::Opened;
 use parse::limit::Admission;
 
 mod runs;
@@ -52,7 +52,7 @@ pub fn merge(kind: u32, old: &[u8], list: &[u8], index: &mut [u32], out: &mut [u
 {
     match parse::limit::admit(kind, old.len(), list.len()) {
         Admission::Digits(n) => {
-            let t = parse::class::table();
+            let t = class::table();
             merge_by(&t, n, old, list, index, out)
         }
         Admission::UnknownKind => Merged::UnknownKind,
@@ -98,7 +98,7 @@ fn with_edits(
     ensures { λ r. ⌜ r ≡ judged paper n (now (old .entry)) (editsAt n (now (list .entry)) (now (index .entry))) (length (now (out .entry))) ⌝ }
     ensures { λ r. ⌜ now (out .exit) ≡ outputBy (newFile (oldEntries paper n (now (old .entry))) (editsAt n (now (list .entry)) (now (index .entry)))) (now (out .entry)) r ⌝ }
 {
-    match decode::header::open(t, old) {
+    match header::open(t, old) {
         Opened::Unreadable(text) => Merged::BadHeader(text),
         Opened::Header(h) => behind_header(t, n, old, h.body, list, index, out),
     }

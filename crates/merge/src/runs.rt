@@ -3,15 +3,15 @@ ghost use mathlib.Core.Path.{_≡_};
 ghost use mathlib.Core.List.{_∷_, []};
 ghost use Prim.Native.Nat.{ℕ, _+_, _*_, _≤_};
 ghost use lib.ListN.{getD, length, drop};
-ghost use Rattle.parse.specs.Class.{classesOf};
-ghost use Rattle.iter.specs.declared.check.Verdict.the-variants.{Clean};
-ghost use Rattle.iter.specs.Check.{judgeBody};
+ghost use Rattle.class.specs.Class.{classesOf};
+ghost use Rattle.checks.specs.declared.Verdict.the-variants.{Clean};
+ghost use Rattle.checks.specs.Check.{judgeBody};
 ghost use Rattle.iter.specs.Items.{items};
 ghost use Rattle.put.specs.Put.{over};
 ghost use Rattle.merge.specs.Runs.{runsOf, settles, atEnd, marksOf, isStill};
-use iter::check::Turn;
-use iter::check::Verdict;
-use parse::order::Order;
+use checks::Turn;
+use checks::Verdict;
+use compare::order::Order;
 
 // The check of the records from a place on. Where they pass, marks begins with the starts and ends of the runs of the edits at the
 // index's places.
@@ -33,7 +33,7 @@ pub(crate) fn survey(
     let mut last = &file[0..0];
     let mut j = 0;
     loop {
-        match iter::check::take_turn(t, n, file, place, last) {
+        match checks::take_turn(t, n, file, place, last) {
             Turn::End => {
                 settle_rest(index, j, place, marks);
                 return Verdict::Clean(count);
@@ -71,7 +71,7 @@ fn settle(
 {
     let mut j = from;
     while j < index.len() {
-        match parse::order::compare(name, sort::name::edit_name(list, index[j])) {
+        match compare::order::compare(name, places::name::edit_name(list, index[j])) {
             Order::Less => {
                 return j;
             }
@@ -131,5 +131,5 @@ pub(crate) fn is_still(list: &[u8], index: &[u32], marks: &[usize]) -> bool
 pub(crate) fn kind_at(list: &[u8], place: u32) -> u8
     ensures { λ r. ⌜ r ≡ getD (now (list .entry)) place 0 ⌝ }
 {
-    sort::name::byte_at(list, place as usize)
+    places::name::byte_at(list, place as usize)
 }

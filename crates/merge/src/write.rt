@@ -44,13 +44,13 @@ fn put_new(n: usize, list: &[u8], place: u32, out: &mut [u8], at: usize) -> usiz
     if kind == 0 {
         return 0;
     }
-    let ids = edit::change::behind_name(list, place);
+    let ids = change::behind_name(list, place);
     let half = n / 2;
     let line = put_record(
         out,
         at,
         parse::part::between(ids, 0, half),
-        sort::name::edit_name(list, place),
+        places::name::edit_name(list, place),
     );
     if kind == 1 {
         return line;

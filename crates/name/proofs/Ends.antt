@@ -10,7 +10,7 @@ use borrow.Author.Tests.{le-leb}
 use lib.Dec.{leb, eqb}
 use lib.ListN.{length, getD, take, drop}
 use lib.Seq.{length-take-le, slice-cons, slice-empty, take-length}
-use Rattle.parse.specs.Prefix.{same}
+use Rattle.compare.specs.Prefix.{same}
 use Rattle.name.specs.Words.{ends}
 use Rattle.name.specs.Name.{dotLock}
 

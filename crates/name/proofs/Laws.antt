@@ -8,7 +8,7 @@ use native.Mathlib.Omega.{arith}
 use borrow.Author.Tests.{eqb-true, not-true}
 use lib.Dec.{eqb}
 use lib.ListN.{length, getD}
-use Rattle.parse.specs.Class.{Classes, paper, isForbidden, isLineEnd}
+use Rattle.class.specs.Class.{Classes, paper, isForbidden, isLineEnd}
 use Rattle.name.specs.Words.{all}
 use Rattle.name.specs.Name.{noComponentBeginsWithDot, noLockAtTheEnd, hasSlash, noDotDot, noForbiddenByte, slashesApart, noDotAtTheEnd, noAtBrace, notTheLoneAt, validName}
 

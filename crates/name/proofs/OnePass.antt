@@ -7,8 +7,8 @@ use native.Mathlib.Numerals.{add-one}
 use lib.Dec.{eqb}
 use lib.ListN.{length, getD, drop, drop-of-length-le}
 use lib.Seq.{drop-cons}
-use Rattle.parse.specs.Class.{Classes}
-use Rattle.parse.specs.Prefix.{begins}
+use Rattle.class.specs.Class.{Classes}
+use Rattle.compare.specs.Prefix.{begins}
 use Rattle.name.specs.Words.{contains, ends, all}
 use Rattle.name.specs.Name.{dot, dotDot, slash, slashSlash, atBrace, dotLock, noComponentBeginsWithDot, noLockAtTheEnd, hasSlash, noDotDot, noForbiddenByte, slashesApart, noDotAtTheEnd, noAtBrace, notTheLoneAt, validName}
 use Rattle.name.proofs.Laws.{lone-at}

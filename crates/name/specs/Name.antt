@@ -2,8 +2,8 @@
 use mathlib.Core.Bool.{Bool, true, false, not, _&&_, _||_}
 use mathlib.Core.List.{List, [], _∷_}
 use Prim.Native.Nat.{ℕ}
-use Rattle.parse.specs.Class.{Classes}
-use Rattle.parse.specs.Prefix.{begins, same}
+use Rattle.class.specs.Class.{Classes}
+use Rattle.compare.specs.Prefix.{begins, same}
 use Rattle.name.specs.Words.{contains, ends, componentBegins, all}
 
 -- `.` `..` `/` `//` `@` `@{` `.lock`

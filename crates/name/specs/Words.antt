@@ -2,7 +2,7 @@
 use mathlib.Core.Bool.{Bool, true, false, _&&_, _||_}
 use mathlib.Core.List.{List, [], _∷_}
 use Prim.Native.Nat.{ℕ}
-use Rattle.parse.specs.Prefix.{begins, same}
+use Rattle.compare.specs.Prefix.{begins, same}
 
 -- w stands somewhere in s
 abbrev pub contains : List ℕ → List ℕ → Bool

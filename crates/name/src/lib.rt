@@ -4,8 +4,8 @@ ghost use mathlib.Core.Bool.{not, _&&_};
 ghost use mathlib.Core.List.{[], _∷_};
 ghost use lib.Dec.{leb};
 ghost use lib.ListN.{length, take};
-ghost use Rattle.parse.specs.Class.{paper, classesOf};
-ghost use Rattle.parse.specs.Prefix.{begins};
+ghost use Rattle.class.specs.Class.{paper, classesOf};
+ghost use Rattle.compare.specs.Prefix.{begins};
 ghost use Rattle.name.specs.Words.{ends};
 ghost use Rattle.name.specs.Name.{validName, dot, dotDot, slashSlash, atBrace, dotLock};
 
@@ -13,7 +13,7 @@ ghost use Rattle.name.specs.Name.{validName, dot, dotDot, slashSlash, at
 pub fn is_valid(s: &[u8]) -> bool
     ensures { λ r. ⌜ r ≡ validName paper (now (s .entry)) ⌝ }
 {
-    let t = parse::class::table();
+    let t = class::table();
     is_valid_by(&t, s)
 }
 
@@ -45,7 +45,7 @@ fn may_follow(t: &[u8; 256], before: u8, b: u8) -> bool
         && (not (begins dotDot (before ∷ b ∷ []))
         && (not (begins slashSlash (before ∷ b ∷ [])) && not (begins atBrace (before ∷ b ∷ [])))))) ⌝ }
 {
-    if parse::class::is_forbidden(t, b) {
+    if class::is_forbidden(t, b) {
         return false;
     }
     if b == b'.' {

@@ -1,21 +1,21 @@
 -- Document 01's examples that are marked P hold: the prover computes them all in one statement.
 use mathlib.Core.Path.{refl}
-use Rattle.parse.specs.Class.{isHex, isForbidden, isLineEnd}
+use Rattle.class.specs.Class.{isHex, isForbidden, isLineEnd}
 use Rattle.parse.specs.Part.{byteAt}
 use Rattle.parse.specs.Id.{idAt}
 use Rattle.parse.specs.Limit.{digitsOf, overLimit, admission}
 use Rattle.parse.specs.Line.{eol, newlineAt, textAt}
 use Rattle.name.specs.Name.{noComponentBeginsWithDot, noLockAtTheEnd, hasSlash, noDotDot, noForbiddenByte, slashesApart, noDotAtTheEnd, noAtBrace, notTheLoneAt, validName}
-use Rattle.decode.specs.Header.{headerOf}
+use Rattle.header.specs.Header.{headerOf}
 use Rattle.decode.specs.Record.{recordOf}
 use Rattle.decode.specs.Shape.{shapeOf}
 use Rattle.decode.specs.Start.{recordStart}
 use Rattle.iter.specs.Step.{more}
 use Rattle.iter.specs.Items.{sizeOf, itemsBehind, items}
-use Rattle.iter.specs.Check.{judgeBody, checkOf, checkAnswer}
-use Rattle.find.specs.Search.{probedOf, halve, searchOf}
+use Rattle.checks.specs.Check.{judgeBody, checkOf, checkAnswer}
+use Rattle.search.specs.Search.{probedOf, halve, searchOf}
 use Rattle.find.specs.Lookup.{lookupOf, lookupAnswer}
-use Rattle.edit.specs.Change.{lengthAt}
+use Rattle.change.specs.Change.{lengthAt}
 use Rattle.loose.specs.Loose.{symbolicOf, looseOf, looseAnswer}
 use Rattle.paper.specs.Cases.{EveryCase}
 

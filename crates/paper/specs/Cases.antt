@@ -4,17 +4,17 @@ use mathlib.Core.Path.{_≡_}
 use mathlib.Core.List.{List, [], _∷_, _++_, map}
 use Prim.Native.Nat.{ℕ}
 use lib.ListN.{take, drop, replicate}
-use Rattle.parse.specs.Class.{paper}
-use Rattle.iter.specs.Check.{checkAnswer, checkNumber}
-use Rattle.iter.specs.declared.check.CheckAnswer.{CheckAnswer}
-use Rattle.iter.specs.declared.check.CheckAnswer.the-variants as checked
-use Rattle.iter.specs.declared.check.Verdict.the-variants.{Clean, BadHeader, BadRecord, Unsorted}
+use Rattle.class.specs.Class.{paper}
+use Rattle.checks.specs.Check.{checkAnswer, checkNumber}
+use Rattle.checks.specs.declared.CheckAnswer.{CheckAnswer}
+use Rattle.checks.specs.declared.CheckAnswer.the-variants as checked
+use Rattle.checks.specs.declared.Verdict.the-variants.{Clean, BadHeader, BadRecord, Unsorted}
 use Rattle.iter.specs.Handed.{Handed, good, error, handed}
 use Rattle.iter.specs.Items.{items}
 use Rattle.find.specs.Lookup.{lookupAnswer, lookupNumber}
-use Rattle.edit.specs.declared.change.Length.{Length}
-use Rattle.edit.specs.declared.change.Length.the-variants.{Of, Malformed}
-use Rattle.edit.specs.Change.{lengthAt}
+use Rattle.change.specs.declared.Length.{Length}
+use Rattle.change.specs.declared.Length.the-variants.{Of, Malformed}
+use Rattle.change.specs.Change.{lengthAt}
 use Rattle.loose.specs.declared.Loose.the-variants.{Id, Symbolic, Unreadable, BadTarget}
 use Rattle.loose.specs.declared.LooseAnswer.{LooseAnswer}
 use Rattle.loose.specs.declared.LooseAnswer.the-variants as loosely

@@ -8,7 +8,7 @@ use lib.Dec.{eqb}
 use lib.ListN.{getD, length, take, drop, List·getD-append}
 use borrow.Author.Tests.{eqb-true, ne-eqb}
 use Rattle.parse.specs.Choice.{if}
-use Rattle.parse.specs.Class.{isHex, isLineEnd}
+use Rattle.class.specs.Class.{isHex, isLineEnd}
 use Rattle.parse.specs.Run.{span}
 use Rattle.parse.specs.Line.{eol, lineLen}
 

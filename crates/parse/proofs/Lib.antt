@@ -1,9 +1,6 @@
-pub mod Classes
 pub mod Fronts
 pub mod Ids
 pub mod Lines
-pub mod Orders
-pub mod Prefixes
 pub mod Runs
 pub mod Slices
 pub mod Views

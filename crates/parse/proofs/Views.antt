@@ -9,7 +9,7 @@ use lib.ListN.{getD, length, drop, length-drop, List·getD-eq-default}
 use borrow.Author.Tests.{leb-true, leb-false, ltb-true, ltb-false, eqb-true, eqb-false}
 use Rattle.parse.specs.declared.part.Past.the-variants.{At, Unread}
 use Rattle.parse.specs.declared.line.Text.the-variants.{Ended, Unended}
-use Rattle.parse.specs.Class.{Classes}
+use Rattle.class.specs.Class.{Classes}
 use Rattle.parse.specs.Run.{span}
 use Rattle.parse.specs.Part.{byteAt}
 use Rattle.parse.specs.Id.{idAt}

@@ -6,7 +6,7 @@ use lib.ListN.{drop}
 use Rattle.parse.specs.declared.part.Past.{Past}
 use Rattle.parse.specs.declared.part.Past.the-variants.{At, Unread}
 use Rattle.parse.specs.Choice.{if}
-use Rattle.parse.specs.Class.{Classes}
+use Rattle.class.specs.Class.{Classes}
 use Rattle.parse.specs.Run.{span}
 
 -- the place behind the n hex digits that stand at a place

@@ -1,9 +1,6 @@
 pub mod Choice
-pub mod Class
 pub mod Id
 pub mod Limit
 pub mod Line
-pub mod Order
 pub mod Part
-pub mod Prefix
 pub mod Run

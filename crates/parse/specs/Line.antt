@@ -9,7 +9,7 @@ use Rattle.parse.specs.declared.part.Past.the-variants.{At, Unread}
 use Rattle.parse.specs.declared.line.Text.{Text}
 use Rattle.parse.specs.declared.line.Text.the-variants.{Ended, Unended}
 use Rattle.parse.specs.Choice.{if}
-use Rattle.parse.specs.Class.{Classes}
+use Rattle.class.specs.Class.{Classes}
 use Rattle.parse.specs.Part.{then}
 use Rattle.parse.specs.Run.{span}
 

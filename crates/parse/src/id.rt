@@ -1,6 +1,6 @@
 // Ids: n hex digits, kept as they stand.
 ghost use mathlib.Core.Path.{_≡_};
-ghost use Rattle.parse.specs.Class.{classesOf};
+ghost use Rattle.class.specs.Class.{classesOf};
 ghost use Rattle.parse.specs.Id.{idAt};
 use crate::part::Past;
 
@@ -20,7 +20,7 @@ pub fn hex_hash(t: &[u8; 256], s: &[u8], at: usize, n: usize) -> Past
     let end = at + n;
     let mut i = at;
     while i < end {
-        if !crate::class::is_hex(t, s[i]) {
+        if !class::is_hex(t, s[i]) {
             return Past::Unread;
         }
         i += 1;

@@ -1,8 +1,5 @@
-// What every layer reads bytes with: byte classes, hex ids, line ends, parts, the order of byte strings, kinds and limits.
-pub mod class;
+// What every layer reads bytes with: hex ids, line ends, parts, kinds and limits.
 pub mod id;
 pub mod limit;
 pub mod line;
-pub mod order;
 pub mod part;
-pub mod prefix;

@@ -2,7 +2,7 @@
 ghost use mathlib.Core.Path.{_≡_};
 ghost use Prim.Native.Nat.{_+_};
 ghost use lib.ListN.{drop};
-ghost use Rattle.parse.specs.Class.{classesOf};
+ghost use Rattle.class.specs.Class.{classesOf};
 ghost use Rattle.parse.specs.Line.{newlineAt, textLen, textAt, lineLen};
 use crate::part::Past;
 
@@ -40,7 +40,7 @@ pub(crate) fn text_end(t: &[u8; 256], s: &[u8], at: usize) -> usize
 {
     let mut i = at;
     while i < s.len() {
-        if crate::class::is_line_end(t, s[i]) {
+        if class::is_line_end(t, s[i]) {
             return i;
         }
         i += 1;

@@ -11,7 +11,7 @@ use lib.ListN.{length, getD, take, drop, set, take-append-drop}
 use lib.Seq.{take-nil, drop-nil, take-all, set-split}
 use borrow.Author.Tests.{ltb-true, ltb-false, le-leb, lt-leb}
 use Rattle.parse.specs.Choice.{if}
-use Rattle.parse.specs.Class.{isHex}
+use Rattle.class.specs.Class.{isHex}
 use Rattle.parse.specs.Run.{span}
 use Rattle.put.specs.Put.{over}
 use Rattle.put.specs.Text.{hexDigit, hexText, notCR, withoutCR}

@@ -10,9 +10,9 @@ use lib.Dec.{leb}
 use lib.ListN.{length, getD, take, drop, set, length-append, length-drop, drop-of-length-le}
 use lib.Seq.{drop-cons, drop-drop, length-take-le}
 use borrow.Author.Tests.{leb-true, leb-false}
-use Rattle.parse.specs.Class.{valuesFrom}
+use Rattle.class.specs.Class.{valuesFrom}
 use Rattle.parse.specs.Run.{span}
-use Rattle.parse.proofs.Classes.{value-at}
+use Rattle.class.proofs.Classes.{value-at}
 use Rattle.parse.proofs.Runs.{span-go, span-le}
 use Rattle.put.specs.Put.{over}
 use Rattle.put.specs.Text.{hexDigit, hexText, notCR, withoutCR}

@@ -292,7 +292,7 @@ pub(crate) fn want_bytes(line: &[u8], c: Cursor, given: &[u8], room: &mut [u8]) 
     if room.len() < n {
         return lost();
     }
-    if !parse::prefix::is_same(&room[0..n], given) {
+    if !compare::prefix::is_same(&room[0..n], given) {
         return lost();
     }
     at(x.next)

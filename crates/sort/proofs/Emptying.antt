@@ -8,7 +8,7 @@ use native.Mathlib.Decide.{ℕ-discrete, decLt}
 use native.Mathlib.Omega.{arith}
 use lib.ListN.{length}
 use Rattle.sort.specs.Sorted.{sorted}
-use Rattle.sort.specs.Laws.{StrictOrder, NotBefore}
+use Rattle.places.specs.Laws.{StrictOrder, NotBefore}
 use Rattle.sort.specs.Heap.{Heap, Moved, swapped}
 use Rattle.sort.proofs.Heaps.{top}
 use Rattle.sort.proofs.Sorting.{only-order}

@@ -3,11 +3,11 @@ use mathlib.Core.Path.{_≡_, refl}
 use mathlib.Core.List.{List, [], _∷_}
 use Prim.Native.Nat.{ℕ}
 use lib.ListN.{replicate}
-use Rattle.parse.specs.Class.{isLineEnd}
-use Rattle.sort.specs.declared.name.Layout.the-variants.{Edit, Record}
+use Rattle.class.specs.Class.{isLineEnd}
+use Rattle.places.specs.declared.name.Layout.the-variants.{Edit, Record}
 use Rattle.sort.specs.declared.twin.Twin.the-variants.{At, Nothing}
-use Rattle.sort.specs.Name.{editName, textOf, nameOf}
-use Rattle.sort.specs.Order.{before, comesFirst}
+use Rattle.places.specs.Name.{editName, textOf, nameOf}
+use Rattle.places.specs.Order.{before, comesFirst}
 use Rattle.sort.specs.Sorted.{sorted}
 use Rattle.sort.specs.Twin.{firstTwin}
 

@@ -7,7 +7,7 @@ use Prim.Native.Nat.{ℕ, zero, suc, _+_, _-_, _*_, _/_, _≤_, _<_}
 use native.Mathlib.Decide.{ℕ-discrete}
 use native.Mathlib.Omega.{arith}
 use lib.ListN.{getD}
-use Rattle.sort.specs.Laws.{StrictOrder, NotBefore}
+use Rattle.places.specs.Laws.{StrictOrder, NotBefore}
 use Rattle.sort.specs.Heap.{Child, Heap, LargerChild}
 use Rattle.sort.proofs.Orders.{not-before-trans}
 

@@ -2,14 +2,10 @@ pub mod Descending
 pub mod Emptying
 pub mod Examples
 pub mod Heaps
-pub mod Names
 pub mod Orders
 pub mod Pairs
-pub mod Places
 pub mod Rising
 pub mod Sorting
-pub mod Strings
 pub mod Swaps
-pub mod Texts
 pub mod Theorems
 pub mod Twins

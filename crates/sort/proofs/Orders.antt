@@ -2,7 +2,7 @@
 use mathlib.Core.Path.{_≡_, refl, sym, ap, _∙_}
 use mathlib.Core.Bool.{Bool, true, false, true≢false}
 use Prim.Native.Nat.{ℕ}
-use Rattle.sort.specs.Laws.{StrictOrder}
+use Rattle.places.specs.Laws.{StrictOrder}
 
 abbrev pub NotAfter : (ℕ → ℕ → Bool) → ℕ → ℕ → Type 0
 NotAfter lt x y = lt y x ≡ false

@@ -7,7 +7,7 @@ use Prim.Native.Nat.{ℕ, _+_, _*_, _≤_, _<_}
 use native.Mathlib.Decide.{ℕ-discrete}
 use native.Mathlib.Omega.{arith}
 use lib.ListN.{length, getD}
-use Rattle.sort.specs.Laws.{StrictOrder, NotBefore}
+use Rattle.places.specs.Laws.{StrictOrder, NotBefore}
 use Rattle.sort.specs.Heap.{Child, Heap, HeapBut, Moved, swapped}
 use Rattle.sort.proofs.Orders.{not-back, not-before-trans}
 use Rattle.sort.proofs.Swaps.{Exchanged, exchanged, moved-none, moved-twice}

@@ -8,9 +8,9 @@ use lib.Dec.{eqb}
 use lib.ListN.{length}
 use borrow.Author.Tests.{eq-eqb, eqb-true}
 use Rattle.parse.specs.Choice.{if}
-use Rattle.parse.specs.Class.{bit}
+use Rattle.class.specs.Class.{bit}
 use Rattle.sort.specs.Sorted.{insert, sorted}
-use Rattle.sort.specs.Laws.{StrictOrder, count, Permutation, InOrder}
+use Rattle.places.specs.Laws.{StrictOrder, count, Permutation, InOrder}
 use Rattle.sort.proofs.Orders.{NotAfter, not-back, not-before-trans}
 use Rattle.sort.proofs.Pairs.{Each, each-map, Pairs, pairs-at, pairs-by}
 

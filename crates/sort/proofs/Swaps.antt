@@ -8,8 +8,8 @@ use native.Mathlib.Omega.{arith}
 use lib.Dec.{eqb}
 use lib.ListN.{length, getD, set, drop, length-set}
 use lib.Seq.{getD-set-same, getD-set-other, drop-set-lt, getD-drop, drop-drop}
-use Rattle.parse.specs.Class.{bit}
-use Rattle.sort.specs.Laws.{count, Permutation}
+use Rattle.class.specs.Class.{bit}
+use Rattle.places.specs.Laws.{count, Permutation}
 use Rattle.sort.specs.Heap.{Moved, swapped}
 
 -- m is l with the entries i and j exchanged

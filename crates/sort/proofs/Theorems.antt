@@ -1,9 +1,9 @@
 -- The theorems of specs/Theorems.antt.
-use Rattle.sort.specs.Name.{nameOf}
-use Rattle.sort.specs.Order.{comesFirst}
+use Rattle.places.specs.Name.{nameOf}
+use Rattle.places.specs.Order.{comesFirst}
 use Rattle.sort.specs.Sorted.{sorted}
 use Rattle.sort.specs.Theorems.{PlacesAreOrdered, SortedIsInOrder, NoOtherOrder, NoTwinNamesRise, NoTwinAllDifferent, TwinIsTwin}
-use Rattle.sort.proofs.Places.{places-ordered}
+use Rattle.places.proofs.Places.{places-ordered}
 use Rattle.sort.proofs.Sorting.{sorted-in-order, only-order}
 use Rattle.sort.proofs.Twins.{names-rise, all-different, is-twin}
 

@@ -7,17 +7,17 @@ use native.Mathlib.Omega.{arith}
 use lib.ListN.{length, getD, drop, length-drop}
 use lib.Seq.{drop-cons}
 use Rattle.parse.specs.Choice.{if}
-use Rattle.parse.specs.Order.{orderOf}
-use Rattle.parse.specs.declared.order.Order.{Order}
-use Rattle.parse.specs.declared.order.Order.the-variants.{Less, Equal, Greater}
-use Rattle.parse.proofs.Orders.{order-refl, order-equal, turned, order-turned, less-trans}
+use Rattle.compare.specs.Order.{orderOf}
+use Rattle.compare.specs.declared.order.Order.{Order}
+use Rattle.compare.specs.declared.order.Order.the-variants.{Less, Equal, Greater}
+use Rattle.compare.proofs.Orders.{order-refl, order-equal, turned, order-turned, less-trans}
 use Rattle.sort.specs.declared.twin.Twin.the-variants.{At, Nothing}
-use Rattle.sort.specs.Order.{isEqual, same, before}
-use Rattle.sort.specs.Laws.{Ascending, NamesRise, AllDifferent, HasTwin}
+use Rattle.places.specs.Order.{isEqual, same, before}
+use Rattle.places.specs.Laws.{Ascending, NamesRise, AllDifferent, HasTwin}
 use Rattle.sort.specs.Twin.{twinBehind, firstTwin}
 use Rattle.sort.proofs.Orders.{NotAfter}
 use Rattle.sort.proofs.Pairs.{each-map, Pairs, pairs-at, pairs-by}
-use Rattle.sort.proofs.Places.{before-by}
+use Rattle.places.proofs.Places.{before-by}
 
 module _ (name : ℕ → List ℕ) where
   -- ---- from a place on

@@ -4,7 +4,7 @@ use mathlib.Core.Path.{_≡_}
 use mathlib.Core.List.{List}
 use Prim.Native.Nat.{ℕ, _+_, _*_, _≤_, _<_}
 use lib.ListN.{length, getD, set, drop}
-use Rattle.sort.specs.Laws.{NotBefore, Permutation}
+use Rattle.places.specs.Laws.{NotBefore, Permutation}
 
 -- the entry c is a child of the entry p
 abbrev pub Child : ℕ → ℕ → Type 0

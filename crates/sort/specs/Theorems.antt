@@ -2,11 +2,11 @@
 use mathlib.Core.Path.{_≡_}
 use mathlib.Core.List.{List}
 use Prim.Native.Nat.{ℕ}
-use Rattle.sort.specs.declared.name.Layout.{Layout}
+use Rattle.places.specs.declared.name.Layout.{Layout}
 use Rattle.sort.specs.declared.twin.Twin.the-variants.{At, Nothing}
-use Rattle.sort.specs.Laws.{StrictOrder, InOrder, NamesRise, AllDifferent, HasTwin}
-use Rattle.sort.specs.Name.{nameOf}
-use Rattle.sort.specs.Order.{comesFirst}
+use Rattle.places.specs.Laws.{StrictOrder, InOrder, NamesRise, AllDifferent, HasTwin}
+use Rattle.places.specs.Name.{nameOf}
+use Rattle.places.specs.Order.{comesFirst}
 use Rattle.sort.specs.Sorted.{sorted}
 use Rattle.sort.specs.Twin.{firstTwin}
 

@@ -4,7 +4,7 @@ use Prim.Native.Nat.{ℕ}
 use Rattle.parse.specs.Choice.{if}
 use Rattle.sort.specs.declared.twin.Twin.{Twin}
 use Rattle.sort.specs.declared.twin.Twin.the-variants.{At, Nothing}
-use Rattle.sort.specs.Order.{same}
+use Rattle.places.specs.Order.{same}
 
 -- the first place of a list that has the name of the one in front of it, where p stands in front of the list
 abbrev pub twinBehind : (ℕ → List ℕ) → ℕ → List ℕ → Twin

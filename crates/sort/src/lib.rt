@@ -3,14 +3,12 @@ ghost use mathlib.Core.Path.{_≡_};
 ghost use Prim.Native.Nat.{_+_, _*_, _≤_, _<_};
 ghost use lib.ListN.{length};
 ghost use Rattle.sort.specs.Heap.{Heap, HeapBut, LargerChild, Moved, Down, swapped};
-ghost use Rattle.sort.specs.Order.{comesFirst};
+ghost use Rattle.places.specs.Order.{comesFirst};
 ghost use Rattle.sort.specs.Sorted.{sorted};
 
-pub mod name;
-mod text;
 pub mod twin;
 
-use crate::name::Layout;
+use places::name::Layout;
 
 // Puts the places of an index in order of their names, and those of the same name in order of place: a heap sort.
 //
@@ -81,7 +79,7 @@ fn rise(index: &mut [u32], s: &[u8], layout: Layout, root: usize, leaf: usize, n
     // While the parent is not in front of root.
     while 2 * root < k {
         let parent = (k - 1) / 2;
-        if !crate::name::comes_first(s, layout, index[parent], index[k]) {
+        if !places::name::comes_first(s, layout, index[parent], index[k]) {
             return;
         }
         swap(index, parent, k);
@@ -99,7 +97,7 @@ fn larger_child(index: &[u32], s: &[u8], layout: Layout, k: usize, n: usize) -> 
     if n <= right {
         return left;
     }
-    if crate::name::comes_first(s, layout, index[left], index[right]) {
+    if places::name::comes_first(s, layout, index[left], index[right]) {
         return right;
     }
     left

@@ -1,8 +1,8 @@
 // Neighbours in an index that have the same name.
 ghost use mathlib.Core.Path.{_≡_};
-ghost use Rattle.sort.specs.Name.{nameOf};
+ghost use Rattle.places.specs.Name.{nameOf};
 ghost use Rattle.sort.specs.Twin.{firstTwin};
-use crate::name::Layout;
+use places::name::Layout;
 
 // The place of the second of two such neighbours, or that there are none.
 pub enum Twin {
@@ -18,7 +18,7 @@ pub fn first_twin(index: &[u32], s: &[u8], layout: Layout) -> Twin
     while i < index.len() {
         let first = index[i - 1];
         let second = index[i];
-        if crate::name::same_name(s, layout, first, second) {
+        if places::name::same_name(s, layout, first, second) {
             return Twin::At(second);
         }
         i += 1;

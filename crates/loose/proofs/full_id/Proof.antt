@@ -2,7 +2,7 @@
 use mathlib.Core.Path.{sym, ap, _∙_}
 use mathlib.Core.Bool.{not}
 use borrow.Author.Needs.{needs}
-use Rattle.parse.specs.Class.{classesOf}
+use Rattle.class.specs.Class.{classesOf}
 use Rattle.loose.proofs.Ids.{too-few, nothing-behind, by-next}
 use Rattle.loose.proofs.full_id.Statement.{statement}
 use Rattle.loose.proofs.full_id.Tie as tie

@@ -5,7 +5,7 @@ use Prim.Native.Nat.{_+_, _-_}
 use native.Mathlib.Omega.{arith}
 use borrow.Author.Needs.{needs}
 use lib.ListN.{length, drop}
-use Rattle.parse.specs.Class.{classesOf}
+use Rattle.class.specs.Class.{classesOf}
 use Rattle.parse.proofs.Runs.{span-end, span-stop, span-go}
 use Rattle.loose.specs.Loose.{endsPath, pathLen}
 use Rattle.loose.proofs.path_end.Statement.{statement}

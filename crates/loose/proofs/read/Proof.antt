@@ -1,7 +1,7 @@
 -- `loose::read` meets its contract: 1 and 17 first, and the table's classes are the paper's.
 use mathlib.Core.Path.{sym, ap, _∙_}
 use borrow.Author.Needs.{needs}
-use Rattle.parse.proofs.Classes.{by-paper}
+use Rattle.class.proofs.Classes.{by-paper}
 use Rattle.loose.specs.declared.LooseAnswer.the-variants.{Done}
 use Rattle.loose.specs.Loose.{looseOf, looseAnswer}
 use Rattle.loose.proofs.read.Statement.{statement}

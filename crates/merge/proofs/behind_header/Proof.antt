@@ -3,9 +3,9 @@ use mathlib.Core.Path.{_≡_, refl, sym, ap, _∙_}
 use mathlib.Core.List.{List}
 use Prim.Native.Nat.{ℕ}
 use lib.ListN.{length, drop}
-use Rattle.parse.specs.Class.{paper}
-use Rattle.parse.proofs.Classes.{by-paper}
-use Rattle.iter.specs.Check.{judgeBody}
+use Rattle.class.specs.Class.{paper}
+use Rattle.class.proofs.Classes.{by-paper}
+use Rattle.checks.specs.Check.{judgeBody}
 use Rattle.iter.specs.Items.{items}
 use Rattle.merge.specs.Entry.{Entry, Edit, entriesOf, editsAt}
 use Rattle.put.specs.Put.{over}

@@ -2,7 +2,7 @@
 use mathlib.Core.Path.{_≡_, sym, ap, _∙_}
 use lib.ListN.{length}
 use Rattle.parse.specs.Limit.{admission}
-use Rattle.parse.specs.Class.{paper}
+use Rattle.class.specs.Class.{paper}
 use Rattle.merge.specs.Merge.{newFile, oldEntries, editsInOrder, outputBy, mergeAnswer, indexAnswer, outputAfter}
 use Rattle.merge.proofs.Admitted.{admitted}
 use borrow.Author.Needs.{needs}

@@ -5,8 +5,8 @@ use Prim.Native.Nat.{ℕ, _-_}
 use native.Mathlib.Nat.{sub-zero}
 use native.Mathlib.Omega.{arith}
 use lib.ListN.{length, take}
-use Rattle.parse.specs.Class.{paper}
-use Rattle.parse.proofs.Classes.{by-paper}
+use Rattle.class.specs.Class.{paper}
+use Rattle.class.proofs.Classes.{by-paper}
 use Rattle.edit.specs.declared.list.Prepared.the-variants.{Ready}
 use Rattle.edit.specs.List.{editsOf, placesOf, preparedOf, indexAfter}
 use Rattle.merge.specs.Entry.{editsAt}

@@ -2,9 +2,9 @@
 use mathlib.Core.Path.{_≡_, refl, sym, ap, _∙_}
 use mathlib.Core.List.{List}
 use lib.ListN.{length}
-use Rattle.parse.specs.Class.{paper}
-use Rattle.parse.proofs.Classes.{by-paper}
-use Rattle.decode.specs.Header.{headerOf}
+use Rattle.class.specs.Class.{paper}
+use Rattle.class.proofs.Classes.{by-paper}
+use Rattle.header.specs.Header.{headerOf}
 use Rattle.merge.specs.Entry.{Edit, editsAt}
 use Rattle.merge.specs.Merge.{newFile, outputBy}
 use Rattle.merge.proofs.Ready.{bad-header, old-entries, good-header}

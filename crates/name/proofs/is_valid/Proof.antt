@@ -1,8 +1,8 @@
 -- `name::is_valid` meets its contract: the table that it makes has the paper's classes. Assumes nothing.
 use mathlib.Core.Path.{ap, _∙_}
 use borrow.Author.Needs.{needs}
-use Rattle.parse.specs.Class.{Classes, classesOf}
-use Rattle.parse.proofs.Classes.{table-classes}
+use Rattle.class.specs.Class.{Classes, classesOf}
+use Rattle.class.proofs.Classes.{table-classes}
 use Rattle.name.specs.Name.{validName}
 use Rattle.name.proofs.is_valid.Statement.{statement}
 use Rattle.name.proofs.is_valid.Tie as tie

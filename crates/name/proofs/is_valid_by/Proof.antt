@@ -6,7 +6,7 @@ use Prim.Native.Nat.{_-_}
 use borrow.Author.Needs.{needs}
 use borrow.Author.Tests.{not-true, not-false}
 use lib.ListN.{length, drop}
-use Rattle.parse.specs.Class.{classesOf}
+use Rattle.class.specs.Class.{classesOf}
 use Rattle.name.specs.Words.{ends}
 use Rattle.name.specs.Name.{dotLock, validName}
 use Rattle.name.proofs.Ends.{lock-whole}

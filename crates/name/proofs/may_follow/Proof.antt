@@ -3,7 +3,7 @@ use mathlib.Core.Path.{_≡_, sym, _∙_}
 use mathlib.Core.Bool.{false, and-true, and-false}
 use borrow.Author.Needs.{needs}
 use borrow.Author.Tests.{ne-eqb}
-use Rattle.parse.specs.Class.{classesOf}
+use Rattle.class.specs.Class.{classesOf}
 use Rattle.name.proofs.may_follow.Statement.{statement}
 use Rattle.name.proofs.may_follow.Tie as tie
 

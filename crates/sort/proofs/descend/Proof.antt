@@ -1,6 +1,6 @@
 -- `sort::descend` meets its contract: the entry comes down from one place to the next.
 use Prim.Native.Nat.{_-_}
-use Rattle.sort.specs.Order.{comesFirst}
+use Rattle.places.specs.Order.{comesFirst}
 use Rattle.sort.specs.Heap.{Down}
 use Rattle.sort.proofs.Descending.{down-start, down-step}
 use borrow.Author.Needs.{needs}

@@ -2,7 +2,7 @@
 use Prim.Native.Nat.{_/_, _≤_}
 use native.Mathlib.Omega.{arith}
 use lib.ListN.{length}
-use Rattle.sort.specs.Order.{comesFirst}
+use Rattle.places.specs.Order.{comesFirst}
 use Rattle.sort.specs.Heap.{Heap, Moved}
 use Rattle.sort.proofs.Heaps.{leaves}
 use Rattle.sort.proofs.Swaps.{moved-none, moved-twice}

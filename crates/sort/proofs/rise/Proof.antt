@@ -3,7 +3,7 @@ use mathlib.Core.Path.{sym, _∙_}
 use Prim.Native.Nat.{_-_, _/_}
 use native.Mathlib.Omega.{arith}
 use borrow.Author.Tests.{not-true, not-false}
-use Rattle.sort.specs.Order.{comesFirst}
+use Rattle.places.specs.Order.{comesFirst}
 use Rattle.sort.proofs.Rising.{Up, up-start, up-step, up-stop, up-end}
 use Rattle.sort.proofs.Theorems.{places-are-ordered}
 use borrow.Author.Needs.{needs}

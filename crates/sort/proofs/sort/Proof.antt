@@ -1,7 +1,7 @@
 -- `sort::sort` meets its contract: the first n entries are a heap, those behind stand where they belong.
 use native.Mathlib.Omega.{arith}
 use lib.ListN.{length-set}
-use Rattle.sort.specs.Order.{comesFirst}
+use Rattle.places.specs.Order.{comesFirst}
 use Rattle.sort.proofs.Emptying.{Emptying, emptying-start, emptying-turn, emptying-end, heap-left}
 use Rattle.sort.proofs.Theorems.{places-are-ordered}
 use borrow.Author.Needs.{needs}

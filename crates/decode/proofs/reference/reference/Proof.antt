@@ -7,7 +7,7 @@ use lib.ListN.{take, drop}
 use borrow.Author.Tests.{not-true, not-false}
 use Rattle.parse.specs.declared.part.Past.the-variants.{At, Unread}
 use Rattle.parse.specs.declared.line.Text.the-variants.{Ended}
-use Rattle.parse.specs.Class.{Classes, classesOf}
+use Rattle.class.specs.Class.{Classes, classesOf}
 use Rattle.parse.specs.Part.{byteAt}
 use Rattle.parse.specs.Id.{idAt}
 use Rattle.parse.specs.Line.{newlineAt, textAt}

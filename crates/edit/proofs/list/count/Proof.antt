@@ -4,14 +4,14 @@ use mathlib.Core.List.{List}
 use Prim.Native.Nat.{ℕ, suc, _+_, _-_, _≤_, _<_}
 use native.Mathlib.Omega.{arith}
 use lib.ListN.{length, drop}
-use Rattle.parse.specs.Class.{Classes, classesOf}
+use Rattle.class.specs.Class.{Classes, classesOf}
 use Rattle.parse.proofs.Slices.{rest-is}
-use Rattle.edit.specs.declared.change.Change.{Change}
-use Rattle.edit.specs.declared.change.Reading.the-variants.{Good}
+use Rattle.change.specs.declared.Change.{Change}
+use Rattle.change.specs.declared.Reading.the-variants.{Good}
 use Rattle.edit.specs.declared.list.Edits.the-variants.{Count}
-use Rattle.edit.specs.Change.{changeOf}
+use Rattle.change.specs.Change.{changeOf}
 use Rattle.edit.specs.List.{Listed, editsFrom, editsOf, told}
-use Rattle.edit.proofs.Parts.{edit-goes-on}
+use Rattle.change.proofs.Parts.{edit-goes-on}
 use Rattle.edit.proofs.Lists.{from-end, from-many, from-malformed, from-bad-name, from-good, told-onto}
 use borrow.Author.Needs.{needs}
 use Rattle.edit.proofs.list.count.Statement.{statement}

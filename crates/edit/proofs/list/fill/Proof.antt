@@ -4,12 +4,12 @@ use mathlib.Core.List.{List}
 use Prim.Native.Nat.{ℕ, _+_, _-_, _≤_, _<_}
 use native.Mathlib.Omega.{arith}
 use lib.ListN.{length, drop, length-set}
-use Rattle.parse.specs.Class.{Classes, classesOf}
+use Rattle.class.specs.Class.{Classes, classesOf}
 use Rattle.parse.proofs.Slices.{rest-is}
-use Rattle.edit.specs.declared.change.Change.{Change}
-use Rattle.edit.specs.declared.change.Reading.the-variants.{Good}
-use Rattle.edit.specs.Change.{changeOf}
-use Rattle.edit.proofs.Parts.{edit-goes-on}
+use Rattle.change.specs.declared.Change.{Change}
+use Rattle.change.specs.declared.Reading.the-variants.{Good}
+use Rattle.change.specs.Change.{changeOf}
+use Rattle.change.proofs.Parts.{edit-goes-on}
 use Rattle.edit.proofs.Filling.{Filling, filling-first, filling-end, no-malformed, no-bad-name, room-here, filling-next}
 use borrow.Author.Needs.{needs}
 use Rattle.edit.proofs.list.fill.Statement.{statement}

@@ -6,7 +6,7 @@ use Prim.Native.Nat.{ℕ, _≤_}
 use native.Mathlib.Omega.{arith}
 use lib.ListN.{length, take, drop, length-append, length-drop}
 use borrow.Author.Tests.{ltb-false}
-use Rattle.parse.specs.Class.{Classes, classesOf}
+use Rattle.class.specs.Class.{Classes, classesOf}
 use Rattle.parse.specs.Limit.{overLimit}
 use Rattle.edit.specs.declared.list.Edits.the-variants.{Count}
 use Rattle.edit.specs.List.{editsOf, told, placesOf, inOrder, twinsOf}

@@ -1,6 +1,6 @@
 -- `find::listing::list` meets its contract: 1 and 17 first, and the table's classes are the paper's.
 use mathlib.Core.Path.{_≡_, sym, ap, _∙_}
-use Rattle.parse.proofs.Classes.{by-paper}
+use Rattle.class.proofs.Classes.{by-paper}
 use Rattle.find.specs.declared.listing.ListingAnswer.the-variants.{Done}
 use Rattle.find.specs.Listing.{listingOf, listingAnswer}
 use borrow.Author.Needs.{needs}

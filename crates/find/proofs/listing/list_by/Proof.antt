@@ -1,6 +1,6 @@
 -- `find::listing::list_by` meets its contract.
 use mathlib.Core.Path.{_≡_, sym, _∙_}
-use Rattle.parse.specs.Class.{classesOf}
+use Rattle.class.specs.Class.{classesOf}
 use Rattle.find.specs.Listing.{listingOf}
 use Rattle.find.proofs.Places.{search-inside}
 use borrow.Author.Needs.{needs}

@@ -2,7 +2,7 @@
 use mathlib.Core.Path.{_≡_, sym, ap, _∙_}
 use native.Mathlib.Omega.{arith}
 use lib.ListN.{drop, length-drop}
-use Rattle.parse.specs.Class.{classesOf}
+use Rattle.class.specs.Class.{classesOf}
 use Rattle.parse.proofs.Slices.{rest-is}
 use Rattle.iter.specs.Start.{startOf}
 use Rattle.iter.proofs.Begins.{start-inside}

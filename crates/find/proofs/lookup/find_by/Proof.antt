@@ -1,7 +1,7 @@
 -- `find::lookup::find_by` meets its contract.
 use mathlib.Core.Path.{_≡_, sym, ap, _∙_}
 use borrow.Author.Tests.{not-true, not-false}
-use Rattle.parse.specs.Class.{classesOf}
+use Rattle.class.specs.Class.{classesOf}
 use Rattle.parse.proofs.Slices.{rest-is}
 use Rattle.decode.specs.Record.{recordOf}
 use Rattle.find.specs.Lookup.{lookupOf}

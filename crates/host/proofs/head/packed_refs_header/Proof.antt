@@ -1,7 +1,7 @@
 -- `host::head::packed_refs_header` meets its contract.
 use mathlib.Core.Path.{_≡_, sym, _∙_}
-use Rattle.decode.specs.declared.header.HeaderAnswer.{HeaderAnswer}
-use Rattle.decode.specs.Header.{headerAnswer}
+use Rattle.header.specs.declared.HeaderAnswer.{HeaderAnswer}
+use Rattle.header.specs.Header.{headerAnswer}
 use borrow.Author.Needs.{needs}
 use Rattle.host.proofs.head.packed_refs_header.Statement.{statement}
 use Rattle.host.proofs.head.packed_refs_header.Tie as tie

@@ -1,12 +1,12 @@
 -- `host::seek::packed_refs_ask` meets its contract.
 use mathlib.Core.Path.{_≡_, sym, ap, _∙_}
-use Rattle.find.specs.declared.ask.Told.{Told}
-use Rattle.find.specs.declared.ask.AskAnswer.{AskAnswer}
-use Rattle.find.specs.declared.ask.AskAnswer.the-variants.{Done}
-use Rattle.find.specs.Ask.{askAnswer}
+use Rattle.ask.specs.declared.Told.{Told}
+use Rattle.ask.specs.declared.AskAnswer.{AskAnswer}
+use Rattle.ask.specs.declared.AskAnswer.the-variants.{Done}
+use Rattle.ask.specs.Ask.{askAnswer}
 use Prim.Native.Nat.{ℕ}
 use Rattle.decode.specs.declared.reference.Record.{Record}
-use Rattle.find.specs.declared.ask.Told.the-variants.{Charted}
+use Rattle.ask.specs.declared.Told.the-variants.{Charted}
 use Rattle.host.proofs.Near.{Near, ask-near}
 use borrow.Author.Needs.{needs}
 use Rattle.host.proofs.seek.packed_refs_ask.Statement.{statement}

@@ -1,9 +1,9 @@
 -- `host::walk::packed_refs_check` meets its contract.
 use mathlib.Core.Path.{_≡_, sym, ap, _∙_}
-use Rattle.iter.specs.declared.check.Verdict.{Verdict}
-use Rattle.iter.specs.declared.check.CheckAnswer.{CheckAnswer}
-use Rattle.iter.specs.declared.check.CheckAnswer.the-variants.{Done}
-use Rattle.iter.specs.Check.{checkAnswer}
+use Rattle.checks.specs.declared.Verdict.{Verdict}
+use Rattle.checks.specs.declared.CheckAnswer.{CheckAnswer}
+use Rattle.checks.specs.declared.CheckAnswer.the-variants.{Done}
+use Rattle.checks.specs.Check.{checkAnswer}
 use borrow.Author.Needs.{needs}
 use Rattle.host.proofs.walk.packed_refs_check.Statement.{statement}
 use Rattle.host.proofs.walk.packed_refs_check.Tie as tie

@@ -1,6 +1,6 @@
 -- `iter::start::begin` meets its contract: 1 and 17 first, and the table's classes are the paper's.
 use mathlib.Core.Path.{_≡_, sym, ap, _∙_}
-use Rattle.parse.proofs.Classes.{by-paper}
+use Rattle.class.proofs.Classes.{by-paper}
 use Rattle.iter.specs.declared.start.StartAnswer.the-variants.{Done}
 use Rattle.iter.specs.Start.{startOf, startAnswer}
 use borrow.Author.Needs.{needs}

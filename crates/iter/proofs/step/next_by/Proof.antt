@@ -5,9 +5,9 @@ use Prim.Native.Nat.{ℕ, _+_, _-_}
 use native.Mathlib.Omega.{arith}
 use borrow.Author.Tests.{not-true, not-false}
 use lib.ListN.{drop, length-drop}
-use Rattle.parse.specs.Class.{Classes, classesOf}
+use Rattle.class.specs.Class.{Classes, classesOf}
 use Rattle.parse.specs.Line.{lineLen}
-use Rattle.parse.specs.Prefix.{begins}
+use Rattle.compare.specs.Prefix.{begins}
 use Rattle.parse.proofs.Fronts.{lineLen-some}
 use Rattle.decode.specs.declared.reference.Record.{Record}
 use Rattle.decode.specs.declared.reference.Reading.the-variants as reading

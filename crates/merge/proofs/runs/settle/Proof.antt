@@ -3,8 +3,8 @@ use mathlib.Core.Path.{_≡_, refl, sym, ap, _∙_}
 use mathlib.Core.List.{List}
 use Prim.Native.Nat.{ℕ, _-_, _≤_, _<_}
 use lib.ListN.{getD, length, drop}
-use Rattle.parse.specs.Order.{orderOf}
-use Rattle.sort.specs.Name.{editName}
+use Rattle.compare.specs.Order.{orderOf}
+use Rattle.places.specs.Name.{editName}
 use Rattle.merge.specs.Runs.{Run, settles}
 use Rattle.merge.proofs.Marks.{Going, begin, ends, ends-with, goes-on, settles-end, settles-less, settles-equal, settles-greater}
 use borrow.Author.Needs.{needs}

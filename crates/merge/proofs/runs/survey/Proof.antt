@@ -5,14 +5,14 @@ use Prim.Native.Nat.{ℕ, _+_, _*_, _-_, _≤_}
 use native.Mathlib.Numerals.{add-one}
 use native.Mathlib.Omega.{arith}
 use lib.ListN.{length, drop, length-drop}
-use Rattle.parse.specs.Class.{classesOf}
+use Rattle.class.specs.Class.{classesOf}
 use Rattle.decode.specs.declared.reference.Record.{Record}
-use Rattle.iter.specs.declared.check.Turn.{Turn}
-use Rattle.iter.specs.declared.check.Turn.the-variants.{On}
+use Rattle.checks.specs.declared.Turn.{Turn}
+use Rattle.checks.specs.declared.Turn.the-variants.{On}
 use Rattle.iter.specs.Items.{items}
-use Rattle.iter.specs.Check.{judge, judgeBody}
+use Rattle.checks.specs.Check.{judge, judgeBody}
 use Rattle.iter.proofs.ItemRead.{goes-on, named, named-is}
-use Rattle.iter.proofs.CheckTurns.{Spot, Turned, turned, judgedAfter, judged}
+use Rattle.checks.proofs.CheckTurns.{Spot, Turned, turned, judgedAfter, judged}
 use Rattle.put.specs.Put.{over}
 use Rattle.merge.specs.Runs.{Run, settles, marksOf}
 use Rattle.merge.proofs.RunTurns.{marked, marked-end, marked-on, settles-le}

@@ -5,7 +5,7 @@ use Prim.Native.Nat.{ℕ, _+_, _-_, _/_, _≤_}
 use native.Mathlib.Nat.{sub-zero}
 use native.Mathlib.Omega.{arith}
 use lib.ListN.{length, getD, take, drop, length-append}
-use Rattle.edit.specs.Change.{behindName}
+use Rattle.change.specs.Change.{behindName}
 use Rattle.put.specs.Put.{over}
 use Rattle.put.specs.Text.{hexText}
 use Rattle.put.proofs.Laws.{over-nil}

@@ -5,7 +5,7 @@ use native.Mathlib.Omega.{arith}
 use borrow.Author.Tests.{not-true, not-false}
 use lib.ListN.{length, drop, length-drop}
 use Rattle.parse.specs.declared.part.Past.the-variants.{At}
-use Rattle.parse.specs.Class.{classesOf}
+use Rattle.class.specs.Class.{classesOf}
 use Rattle.parse.specs.Run.{span}
 use Rattle.parse.proofs.Ids.{id-read, id-unread}
 use Rattle.parse.proofs.Runs.{span-le, span-end, span-stop, span-go}

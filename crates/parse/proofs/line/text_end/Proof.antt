@@ -4,7 +4,7 @@ use mathlib.Core.Bool.{not}
 use Prim.Native.Nat.{ℕ, _+_, _-_, _≤_}
 use native.Mathlib.Omega.{arith}
 use lib.ListN.{length, drop}
-use Rattle.parse.specs.Class.{classesOf}
+use Rattle.class.specs.Class.{classesOf}
 use Rattle.parse.specs.Line.{textLen}
 use Rattle.parse.proofs.Runs.{span-end, span-stop, span-go}
 use borrow.Author.Needs.{needs}

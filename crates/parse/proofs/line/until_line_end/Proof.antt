@@ -1,6 +1,6 @@
 -- `parse::line::until_line_end` meets its contract.
 use mathlib.Core.Path.{_≡_, sym, _∙_}
-use Rattle.parse.specs.Class.{classesOf}
+use Rattle.class.specs.Class.{classesOf}
 use Rattle.parse.proofs.Lines.{text-ended, text-unended}
 use borrow.Author.Needs.{needs}
 use Rattle.parse.proofs.line.until_line_end.Statement.{statement}

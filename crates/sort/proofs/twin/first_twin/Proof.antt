@@ -3,7 +3,7 @@ use mathlib.Core.Path.{_≡_, sym, _∙_}
 use Prim.Native.Nat.{_+_, _-_, _<_}
 use native.Mathlib.Omega.{arith}
 use lib.ListN.{length, drop}
-use Rattle.sort.specs.Name.{nameOf}
+use Rattle.places.specs.Name.{nameOf}
 use Rattle.sort.specs.Twin.{firstTwin}
 use Rattle.sort.proofs.Twins.{twin-at, no-twin-left}
 use borrow.Author.Needs.{needs}

@@ -1,0 +1,3 @@
+pub mod FirstNamed
+pub mod Seeking
+pub mod Trusted

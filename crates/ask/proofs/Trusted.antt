@@ -1,0 +1,101 @@
+-- The lookup that can be trusted on any bytes: absent is said only of a file that passes the check and has no record of the name.
+use mathlib.Core.Path.{_≡_, refl, sym, ap, _∙_}
+use mathlib.Core.Bool.{Bool, true, false}
+use mathlib.Core.List.{List, []}
+use Prim.Native.Nat.{ℕ, _+_}
+use native.Mathlib.Omega.{arith}
+use lib.ListN.{length, drop}
+use Rattle.class.specs.Class.{paper}
+use Rattle.name.specs.Name.{validName}
+use Rattle.header.specs.declared.Header.{Header}
+use Rattle.header.specs.declared.Opened.{Opened}
+use Rattle.header.specs.declared.Opened.the-variants as opened
+use Rattle.decode.specs.declared.reference.Record.{Record}
+use Rattle.header.specs.Header.{headerOf}
+use Rattle.checks.specs.declared.Verdict.{Verdict}
+use Rattle.checks.specs.declared.Verdict.the-variants as verdict
+use Rattle.iter.specs.Items.{items, bytesOf}
+use Rattle.checks.specs.Check.{judge, judgeBody, checkOf}
+use Rattle.checks.proofs.CheckMeans.{read}
+use Rattle.ask.specs.declared.Sought.{Sought}
+use Rattle.ask.specs.declared.Sought.the-variants.{At, Nowhere}
+use Rattle.ask.specs.declared.Told.the-variants as told
+use Rattle.ask.specs.Ask.{firstNamed, soughtFrom, unlessFound, askBody, askOf}
+use Rattle.iter.specs.Stands.{Named}
+use Rattle.ask.specs.Trusted.{Trusted}
+use Rattle.ask.proofs.FirstNamed.{NamedAmong, told-at, told-nowhere}
+
+-- only a clean verdict says absent
+clean : (v : Verdict) → unlessFound v ≡ told.Absent → (count : ℕ) × (v ≡ verdict.Clean count)
+clean (verdict.Clean count) e = (count, refl)
+clean (verdict.BadHeader k) e = (0, cc)
+clean (verdict.BadRecord place f) e = (0, cc)
+clean (verdict.Unsorted place) e = (0, cc)
+
+never-charted : (v : Verdict) {place : ℕ} {r : Record} → unlessFound v ≡ told.Charted place r → ⊥
+never-charted (verdict.Clean count) e = let z : _≡_ {A = ℕ} 0 1 = cc in omega arith
+never-charted (verdict.BadHeader k) e = let z : _≡_ {A = ℕ} 0 1 = cc in omega arith
+never-charted (verdict.BadRecord place f) e = let z : _≡_ {A = ℕ} 0 1 = cc in omega arith
+never-charted (verdict.Unsorted place) e = let z : _≡_ {A = ℕ} 0 1 = cc in omega arith
+
+module _ (n : ℕ) (file name : List ℕ) where
+  abbrev sought : Header → Sought
+  sought h = firstNamed n name (h .body) (items paper n (drop (h .body) file))
+
+  abbrev judged : Header → Verdict
+  judged h = judge n (h .body) 0 [] (items paper n (drop (h .body) file))
+
+  -- the four ways to an answer
+  data Asked : Type 0 where
+    bad-name : askOf paper n file name ≡ told.BadName → Asked
+    bad-header : {k : ℕ} → askOf paper n file name ≡ told.BadHeader k → Asked
+    charted : {h : Header} {place : ℕ} {r : Record} → headerOf paper file ≡ opened.Header h → sought h ≡ At place r
+        → askOf paper n file name ≡ told.Charted place r → Asked
+    nowhere : {h : Header} → headerOf paper file ≡ opened.Header h → sought h ≡ Nowhere → askOf paper n file name ≡ unlessFound (judged h) → Asked
+
+  asked : Asked
+  unfolding askOf askBody soughtFrom judgeBody
+  asked = go (validName paper name) refl (headerOf paper file) refl
+    where
+      go : (t : Bool) → validName paper name ≡ t → (o : Opened) → headerOf paper file ≡ o → Asked
+      go false v o q = bad-name (rw v)
+      go true v (opened.Unreadable k) q = bad-header {k = k} (rw (v, q))
+      go true v (opened.Header h) q = by (sought h) refl
+        where
+          by : (x : Sought) → sought h ≡ x → Asked
+          by (At place r) e = charted q e (rw (v, q, e))
+          by Nowhere e = nowhere q e (rw (v, q, e))
+
+  absent : Asked → askOf paper n file name ≡ told.Absent
+      → (count : ℕ) × (h : Header) × (checkOf paper n file ≡ verdict.Clean count) × (headerOf paper file ≡ opened.Header h)
+      × ((place : ℕ) (r : Record) → Named n (drop (h .body) file) name place r → ⊥)
+  absent (bad-name e) a = absurd (let z : _≡_ {A = ℕ} 0 1 = cc in omega arith)
+  absent (bad-header e) a = absurd (let z : _≡_ {A = ℕ} 0 1 = cc in omega arith)
+  absent (charted q s e) a = absurd (let z : _≡_ {A = ℕ} 0 1 = cc in omega arith)
+  absent (nowhere {h} q s e) a =
+      let (count, c) = clean (judged h) (sym e ∙ a) in (
+        count,
+        h,
+        read paper n file q ∙ c,
+        q,
+        λ place r x.
+            told-nowhere n name (h .body) (x .stands .before) (x .it) (x .stands .after)
+            (ap (firstNamed n name (h .body)) (sym (x .stands .all)) ∙ s) (x .good) (x .name-is),
+      )
+
+  found : Asked → (place : ℕ) (r : Record) → askOf paper n file name ≡ told.Charted place r
+      → (h : Header) × (inner : ℕ) × (headerOf paper file ≡ opened.Header h) × (place ≡ h .body + inner) × Named n (drop (h .body) file) name inner r
+  found (bad-name e) place r a = absurd (let z : _≡_ {A = ℕ} 0 1 = cc in omega arith)
+  found (bad-header e) place r a = absurd (let z : _≡_ {A = ℕ} 0 1 = cc in omega arith)
+  found (nowhere {h} q s e) place r a = absurd (never-charted (judged h) (sym e ∙ a))
+  found (charted {h} q s e) place r a =
+      let x : NamedAmong n name (h .body) (items paper n (drop (h .body) file)) place r = told-at n name (h .body) (items paper n (drop (h .body) file)) (s ∙ cc) in (
+        h,
+        length (bytesOf (x .before)),
+        q,
+        x .here,
+        record { it = x .it; stands = record { before = x .before; after = x .after; all = x .all; here = refl }; good = x .good; name-is = x .name-is },
+      )
+
+pub trusted : (n : ℕ) (file name : List ℕ) → Trusted n file name
+trusted n file name = record { absent = absent n file name (asked n file name); charted = found n file name (asked n file name) }

@@ -1,0 +1,205 @@
+-- `ask::ask_body` meets its contract: what the items from the place reached on come to decides the whole.
+use mathlib.Core.Path.{_≡_, refl, sym, ap, _∙_}
+use mathlib.Core.List.{List}
+use Prim.Native.Nat.{ℕ, suc, _-_}
+use native.Mathlib.Omega.{arith}
+use lib.ListN.{length}
+use Rattle.class.specs.Class.{classesOf}
+use Rattle.compare.specs.Prefix.{same}
+use Rattle.decode.specs.declared.reference.Record.{Record}
+use Rattle.checks.specs.declared.Turn.{Turn}
+use Rattle.checks.specs.declared.Turn.the-variants.{On}
+use Rattle.checks.specs.Check.{judgeBody}
+use Rattle.ask.specs.declared.Sought.{Sought}
+use Rattle.ask.specs.declared.Told.{Told}
+use Rattle.ask.specs.Ask.{soughtFrom, orVerdict, unlessFound, askBody}
+use Rattle.iter.proofs.ItemRead.{goes-on, named, named-is}
+use Rattle.checks.proofs.CheckTurns.{Spot, Turned, turned, judgedAfter}
+use Rattle.ask.proofs.Seeking.{askFrom, ask-turn, ask-end, ask-found, ask-on}
+use borrow.Author.Needs.{needs}
+use Rattle.ask.proofs.ask_body.Statement.{statement}
+use Rattle.ask.proofs.ask_body.Tie as tie
+
+abbrev Inv-loop : tie.InvT-loop
+Inv-loop t n file body name place₀ last₀ place last = (count : ℕ) × (askFrom (classesOf t) n file name place count last ≡ askBody (classesOf t) n file body name)
+
+abbrev μ-loop : tie.MeasureT-loop
+μ-loop t n file body name place₀ last₀ place last = length file - place
+
+-- ---- what a turn tells, and what the whole then comes to
+
+module _ (k : tie.After-take-turn Inv-loop μ-loop) where
+  abbrev start : tie.Start Inv-loop μ-loop
+  start = k .before .before .before .before .before
+
+  abbrev here : Spot
+  here =
+      let l = k .before in
+      let a = start .args in
+      record { byte = classesOf (a .t .now); n = a .n; file = a .file .now; place = l .loop .place; last = l .loop .last .now }
+
+  abbrev name : List ℕ
+  name = start .args .name .now
+
+  abbrev count : ℕ
+  count = k .before .loop .inv .0
+
+  tells : (w : Turn) → k .take-turn .result ≡ w → Turned here w
+  tells w = turned here _ w (k .take-turn .ensures)
+
+  abbrev Whole : Told → Type 0
+  Whole told = told ≡ askBody (here .byte) (here .n) (here .file) (start .args .body) name
+
+  -- where the check ends, what is sought from the place on decides
+  ended : (w : Turn) → k .take-turn .result ≡ w → (x : Sought) → x ≡ soughtFrom (here .byte) (here .n) (here .file) (here .place) name
+      → Whole (orVerdict x (unlessFound (judgedAfter here count w)))
+  ended w e x sought =
+      ap (λ v. orVerdict v (unlessFound (judgedAfter here count w))) sought ∙ sym (ask-turn here name count w (tells w e)) ∙ k .before .loop .inv .1
+
+-- a record: its turn, and its name as it is cut out
+module _ (f : tie.After-found Inv-loop μ-loop) where
+  abbrev its : tie.After-take-turn Inv-loop μ-loop
+  its = f .before .before
+
+  abbrev it : Record
+  it = f .found .given .0 .0
+
+  on : Turned (here its) (On it)
+  on = tells its (On it) (f .found .given .1)
+
+module _ (m : tie.After-name-of Inv-loop μ-loop) where
+  abbrev found : tie.After-found Inv-loop μ-loop
+  found = m .before .before .before
+
+  name-is : m .name-of .result .now ≡ named (on found .0)
+  name-is = named-is (on found .0) (m .name-of .ensures)
+
+module _ (q : tie.After-is-same Inv-loop μ-loop) where
+  abbrev of-record : tie.After-found Inv-loop μ-loop
+  of-record = found (q .before)
+
+  wanted-is : same (name (its of-record)) (named (on of-record .0)) ≡ q .is-same .result
+  wanted-is = ap (same (name (its of-record))) (sym (name-is (q .before))) ∙ sym (q .is-same .ensures)
+
+sub-last : tie.Need-sub-last Inv-loop μ-loop
+sub-last c = search needs
+
+part-last-start : tie.Need-part-last-start Inv-loop μ-loop
+part-last-start c = search needs
+
+part-last-end : tie.Need-part-last-end Inv-loop μ-loop
+part-last-end c = search needs
+
+loop-holds : tie.Need-loop-holds Inv-loop μ-loop
+unfolding askBody judgeBody
+loop-holds c = (0, refl)
+
+take-turn-requires : tie.Need-take-turn-requires Inv-loop μ-loop
+take-turn-requires c κs = search needs
+
+enum-told : tie.Need-enum-told Inv-loop μ-loop
+enum-told c = search needs
+
+returns : tie.Need-returns Inv-loop μ-loop
+returns c =
+    let k = c .before .before in
+    sym (ask-end (here k) (name k) (count k) (tells k _ (c .enum-told .given .1))) ∙ k .before .loop .inv .1
+
+enum-known-fault : tie.Need-enum-known-fault Inv-loop μ-loop
+enum-known-fault c = search needs
+
+first-named-requires : tie.Need-first-named-requires Inv-loop μ-loop
+first-named-requires c κs = search needs
+
+verdict-unless-requires : tie.Need-verdict-unless-requires Inv-loop μ-loop
+verdict-unless-requires c κs = search needs
+
+returns-2 : tie.Need-returns-2 Inv-loop μ-loop
+returns-2 c =
+    let f = c .before .before .before in
+    c .verdict-unless .ensures ∙ ended (f .before .before) _ (f .fault .given .1) _ (c .before .first-named .ensures)
+
+enum-told-2 : tie.Need-enum-told-2 Inv-loop μ-loop
+enum-told-2 c = search needs
+
+first-named-requires-2 : tie.Need-first-named-requires-2 Inv-loop μ-loop
+first-named-requires-2 c κs = search needs
+
+verdict-unless-requires-2 : tie.Need-verdict-unless-requires-2 Inv-loop μ-loop
+verdict-unless-requires-2 c κs = search needs
+
+returns-3 : tie.Need-returns-3 Inv-loop μ-loop
+returns-3 c =
+    let u = c .before .before in
+    c .verdict-unless2 .ensures ∙ ended (u .before .before) _ (u .enum-told2 .given .1) _ (c .before .first-named2 .ensures)
+
+enum-known-found : tie.Need-enum-known-found Inv-loop μ-loop
+enum-known-found c = search needs
+
+sub-name-of : tie.Need-sub-name-of Inv-loop μ-loop
+sub-name-of c = omega (arith, on (c .before) .0 .inside)
+
+part-name-of-start : tie.Need-part-name-of-start Inv-loop μ-loop
+part-name-of-start c = omega (arith, on (c .before) .0 .inside)
+
+part-name-of-end : tie.Need-part-name-of-end Inv-loop μ-loop
+part-name-of-end c = search needs
+
+name-of-requires : tie.Need-name-of-requires Inv-loop μ-loop
+name-of-requires c κs = search needs
+
+is-same-requires : tie.Need-is-same-requires Inv-loop μ-loop
+is-same-requires c κs = search needs
+
+returns-4 : tie.Need-returns-4 Inv-loop μ-loop
+returns-4 c =
+    let f = of-record (c .before) in
+    let k = its f in
+    sym (ask-found (here k) (name k) (count k) (it f) (on f) (wanted-is (c .before) ∙ c .if1 .taken)) ∙ k .before .loop .inv .1
+
+add-place : tie.Need-add-place Inv-loop μ-loop
+add-place c =
+    let f = of-record (c .before .before) in
+    omega (arith, goes-on (on f .0), start (its f) .good)
+
+loop-less : tie.Need-loop-less Inv-loop μ-loop
+loop-less c = omega (arith, goes-on (on (of-record (c .before .before)) .0))
+
+loop-again : tie.Need-loop-again Inv-loop μ-loop
+loop-again c =
+    let q = c .before .before in
+    let f = of-record q in
+    let k = its f in
+    (suc (count k), sym (ask-on (here k) (name k) (count k) (it f) (on f) _ (name-is (q .before)) (wanted-is q ∙ c .before .if1 .left)) ∙ k .before .loop .inv .1)
+
+pub ask-body-spec : {M : Type 1} → statement M
+ask-body-spec =
+    tie.close
+    (tie.spec
+    Inv-loop
+    μ-loop
+    sub-last
+    part-last-start
+    part-last-end
+    loop-holds
+    take-turn-requires
+    enum-told
+    returns
+    enum-known-fault
+    first-named-requires
+    verdict-unless-requires
+    returns-2
+    enum-told-2
+    first-named-requires-2
+    verdict-unless-requires-2
+    returns-3
+    enum-known-found
+    sub-name-of
+    part-name-of-start
+    part-name-of-end
+    name-of-requires
+    is-same-requires
+    returns-4
+    add-place
+    loop-less
+    loop-again)

@@ -1,0 +1,78 @@
+-- The lookup that can be trusted on any bytes.
+use mathlib.Core.Bool.{Bool, true, false}
+use mathlib.Core.List.{List, [], _∷_}
+use Prim.Native.Nat.{ℕ, _+_}
+use lib.ListN.{length, drop}
+use Rattle.parse.specs.Choice.{if}
+use Rattle.class.specs.Class.{Classes, paper}
+use Rattle.parse.specs.Limit.{admission, admit}
+use Rattle.compare.specs.Prefix.{same}
+use Rattle.name.specs.Name.{validName}
+use Rattle.header.specs.declared.Opened.{Opened}
+use Rattle.header.specs.declared.Opened.the-variants.{Header, Unreadable}
+use Rattle.decode.specs.declared.reference.Reading.{Reading}
+use Rattle.decode.specs.declared.reference.Reading.the-variants.{Good, Bad}
+use Rattle.header.specs.Header.{headerOf}
+use Rattle.decode.specs.Record.{faultNumber}
+use Rattle.checks.specs.declared.Verdict.{Verdict}
+use Rattle.checks.specs.declared.Verdict.the-variants as verdict
+use Rattle.iter.specs.Items.{Item, items, nameOf}
+use Rattle.checks.specs.Check.{judgeBody}
+use Rattle.ask.specs.declared.Sought.{Sought}
+use Rattle.ask.specs.declared.Sought.the-variants.{At, Nowhere}
+use Rattle.ask.specs.declared.Told.{Told}
+use Rattle.ask.specs.declared.Told.the-variants.{Charted, Absent, BadName, BadHeader, BadRecord, Unsorted}
+use Rattle.ask.specs.declared.AskAnswer.{AskAnswer}
+use Rattle.ask.specs.declared.AskAnswer.the-variants.{Done, UnknownKind, TooLarge}
+
+-- ---- the first record of a name among some items that begin at a place
+
+abbrev pub soughtBy : Reading → Bool → ℕ → Sought → Sought
+soughtBy (Good r) true place later = At place r
+soughtBy (Good r) false place later = later
+soughtBy (Bad f) same place later = later
+
+abbrev pub firstNamed : ℕ → List ℕ → ℕ → List Item → Sought
+firstNamed n name place [] = Nowhere
+firstNamed n name place (i ∷ l) =
+    soughtBy (i .what) (same name (nameOf n i)) place (firstNamed n name (place + length (i .bytes)) l)
+
+unfoldable pub soughtFrom : Classes → ℕ → List ℕ → ℕ → List ℕ → Sought
+soughtFrom byte n file place name = firstNamed n name place (items byte n (drop place file))
+
+-- ---- charted if a record of the file has the name; else absent if the file passes the check; else what the check gives
+
+abbrev pub orVerdict : Sought → Told → Told
+orVerdict (At place r) v = Charted place r
+orVerdict Nowhere v = v
+
+abbrev pub unlessFound : Verdict → Told
+unlessFound (verdict.Clean count) = Absent
+unlessFound (verdict.BadHeader k) = BadHeader k
+unlessFound (verdict.BadRecord place f) = BadRecord place f
+unlessFound (verdict.Unsorted place) = Unsorted place
+
+unfoldable pub askBody : Classes → ℕ → List ℕ → ℕ → List ℕ → Told
+askBody byte n file body name = orVerdict (soughtFrom byte n file body name) (unlessFound (judgeBody byte n file body))
+
+abbrev pub askOpened : Classes → ℕ → List ℕ → List ℕ → Opened → Told
+askOpened byte n file name (Header h) = askBody byte n file (h .body) name
+askOpened byte n file name (Unreadable k) = BadHeader k
+
+unfoldable pub askOf : Classes → ℕ → List ℕ → List ℕ → Told
+askOf byte n file name = if (validName byte name) (askOpened byte n file name (headerOf byte file)) BadName
+
+unfoldable pub askAnswer : ℕ → List ℕ → List ℕ → AskAnswer
+askAnswer kind file name =
+    admit (admission kind (length file) (length name)) (λ n. Done (askOf paper n file name)) UnknownKind TooLarge
+
+-- the paper's number for each case
+abbrev pub askNumber : AskAnswer → ℕ
+askNumber (Done (Charted place r)) = 0
+askNumber (Done Absent) = 5
+askNumber (Done BadName) = 3
+askNumber (Done (BadHeader k)) = 2
+askNumber (Done (BadRecord place f)) = faultNumber f
+askNumber (Done (Unsorted place)) = 6
+askNumber UnknownKind = 1
+askNumber TooLarge = 17

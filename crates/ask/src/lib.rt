@@ -1,0 +1,124 @@
+// The lookup that can be trusted on any bytes: absent is said only of a file that passes the check.
+ghost use mathlib.Core.Path.{_≡_};
+ghost use Rattle.class.specs.Class.{classesOf};
+ghost use Rattle.ask.specs.Ask.{askOf, askAnswer, askBody, soughtFrom, orVerdict};
+use checks::Turn;
+use decode::reference::Fault;
+use decode::reference::Reading;
+use decode::reference::Record;
+use header::Opened;
+use parse::limit::Admission;
+
+pub enum Told {
+    // A record of the file has the name: where it starts.
+    Charted { place: usize, found: Record },
+    // The whole file passes the check, and no record has the name.
+    Absent,
+    // The wanted name breaks the name rules.
+    BadName,
+    // No record has the name, and the file does not pass the check: the header, the first bad record, the first name out of order.
+    BadHeader(usize),
+    BadRecord { place: usize, fault: Fault },
+    Unsorted(usize),
+}
+
+pub enum AskAnswer {
+    Done(Told),
+    UnknownKind,
+    TooLarge,
+}
+
+// The first record of a name.
+pub enum Sought {
+    At { place: usize, found: Record },
+    Nowhere,
+}
+
+pub fn ask(kind: u32, file: &[u8], name: &[u8]) -> AskAnswer
+    ensures { λ r. ⌜ r ≡ askAnswer kind (now (file .entry)) (now (name .entry)) ⌝ }
+{
+    match parse::limit::admit(kind, file.len(), name.len()) {
+        Admission::Digits(n) => {
+            let t = class::table();
+            AskAnswer::Done(ask_by(&t, n, file, name))
+        }
+        Admission::UnknownKind => AskAnswer::UnknownKind,
+        Admission::TooLarge => AskAnswer::TooLarge,
+    }
+}
+
+// The same by a table of byte classes and for ids of n digits.
+pub(crate) fn ask_by(t: &[u8; 256], n: usize, file: &[u8], name: &[u8]) -> Told
+    ensures { λ r. ⌜ r ≡ askOf (classesOf (now (t .entry))) n (now (file .entry)) (now (name .entry)) ⌝ }
+{
+    if !name::is_valid_by(t, name) {
+        return Told::BadName;
+    }
+    match header::open(t, file) {
+        Opened::Unreadable(text) => Told::BadHeader(text),
+        Opened::Header(h) => ask_body(t, n, file, h.body, name),
+    }
+}
+
+// The check from a place on, in one pass, in which a record of the name ends all. At the first fault only the name is looked for
+// from there on.
+pub(crate) fn ask_body(t: &[u8; 256], n: usize, file: &[u8], body: usize, name: &[u8]) -> Told
+    ensures { λ r. ⌜ r ≡ askBody (classesOf (now (t .entry))) n (now (file .entry)) body (now (name .entry)) ⌝ }
+{
+    let mut place = body;
+    let mut last = &file[0..0];
+    loop {
+        match checks::take_turn(t, n, file, place, last) {
+            Turn::End => {
+                return Told::Absent;
+            }
+            Turn::Bad(fault) => {
+                let sought = first_named(t, n, file, place, name);
+                return verdict_unless(sought, Told::BadRecord { place, fault });
+            }
+            Turn::Unsorted => {
+                let sought = first_named(t, n, file, place, name);
+                return verdict_unless(sought, Told::Unsorted(place));
+            }
+            Turn::On(found) => {
+                last = decode::reference::name_of(&file[place..], n, found);
+                if compare::prefix::is_same(last, name) {
+                    return Told::Charted { place, found };
+                }
+                place += found.size;
+            }
+        }
+    }
+}
+
+// The first record of a name from a place on, whatever stands between.
+pub(crate) fn first_named(t: &[u8; 256], n: usize, file: &[u8], from: usize, name: &[u8]) -> Sought
+    ensures { λ r. ⌜ r ≡ soughtFrom (classesOf (now (t .entry))) n (now (file .entry)) from (now (name .entry)) ⌝ }
+{
+    let mut place = from;
+    while place < file.len() {
+        let rest = &file[place..];
+        match decode::reference::reference(t, rest, n) {
+            Reading::Bad(_) => {
+                place = parse::line::line_end(file, place);
+            }
+            Reading::Good(found) => {
+                if compare::prefix::is_same(decode::reference::name_of(rest, n, found), name) {
+                    return Sought::At { place, found };
+                }
+                place += found.size;
+            }
+        }
+    }
+    Sought::Nowhere
+}
+
+// A record that was found, or else the verdict on the file.
+fn verdict_unless(sought: Sought, verdict: Told) -> Told
+    ensures { λ r. ⌜ r ≡ orVerdict sought verdict ⌝ }
+{
+    match sought {
+        Sought::At { place, found } => Told::Charted { place, found },
+        Sought::Nowhere => verdict,
+    }
+}

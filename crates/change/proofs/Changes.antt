@@ -1,0 +1,104 @@
+-- A length and an edit by their parts: what each is once a part can't be read, or once all of them can.
+use mathlib.Core.Path.{_≡_, refl}
+use mathlib.Core.Bool.{Bool, true, false, and-false, or-true}
+use mathlib.Core.List.{List}
+use Prim.Native.Nat.{ℕ, zero, suc, _+_, _-_, _*_, _/_, _%_, _≤_, _<_}
+use native.Mathlib.Nat.{zero-mul}
+use native.Mathlib.Omega.{arith}
+use lib.Dec.{leb}
+use lib.ListN.{getD, length, take, drop}
+use borrow.Author.Tests.{lt-ltb, le-ltb, le-leb, lt-leb, eq-eqb, ne-eqb, leb-true, leb-false}
+use Rattle.class.specs.Class.{Classes}
+use Rattle.name.specs.Name.{validName}
+use Rattle.change.specs.declared.Length.the-variants as long
+use Rattle.change.specs.declared.Reading.the-variants.{Good, Malformed, BadName}
+use Rattle.change.specs.Change.{lengthAt, idBytes, namedChange, changeOf}
+
+module _ (s : List ℕ) (at : ℕ) where
+  pub no-group : length s ≤ at → lengthAt s at ≡ long.Malformed
+  unfolding lengthAt
+  no-group h = rw (le-ltb at (length s) h)
+
+  module _ (inside : at < length s) where
+    pub one-group : getD s at 0 < 128 → lengthAt s at ≡ long.Of (getD s at 0) (at + 1)
+    unfolding lengthAt
+    one-group h = rw (lt-ltb at (length s) inside, lt-ltb (getD s at 0) 128 h)
+
+    module _ (more : 128 ≤ getD s at 0) where
+      pub second-zero : getD s (at + 1) 0 ≡ 0 → lengthAt s at ≡ long.Malformed
+      unfolding lengthAt
+      second-zero h = rw (lt-ltb at (length s) inside, le-ltb (getD s at 0) 128 more, h)
+
+      pub third-group : 128 ≤ getD s (at + 1) 0 → lengthAt s at ≡ long.Malformed
+      unfolding lengthAt
+      third-group h = rw (lt-ltb at (length s) inside, le-ltb (getD s at 0) 128 more, le-ltb (getD s (at + 1) 0) 128 h, and-false)
+
+      pub two-groups : (getD s (at + 1) 0 ≡ 0 → ⊥) → getD s (at + 1) 0 < 128
+          → lengthAt s at ≡ long.Of (getD s at 0 % 128 + 128 * getD s (at + 1) 0) (at + 1 + 1)
+      unfolding lengthAt
+      two-groups z h =
+          rw (lt-ltb at (length s) inside, le-ltb (getD s at 0) 128 more, lt-ltb 0 (getD s (at + 1) 0) (omega arith), lt-ltb (getD s (at + 1) 0) 128 h)
+
+-- ---- an edit
+
+module _ (byte : Classes) (n : ℕ) (s : List ℕ) where
+  abbrev kind : ℕ
+  kind = getD s 0 0
+
+  pub nothing : length s ≡ 0 → changeOf byte n s ≡ Malformed
+  unfolding changeOf
+  nothing h = rw (le-ltb 0 (length s) (omega arith))
+
+  pub bad-kind : 2 < kind → changeOf byte n s ≡ Malformed
+  unfolding changeOf
+  bad-kind h = rw (lt-leb kind 2 h, and-false)
+
+  module _ (some : 0 < length s) (known : kind ≤ 2) where
+    pub bad-length : lengthAt s 1 ≡ long.Malformed → changeOf byte n s ≡ Malformed
+    unfolding changeOf
+    bad-length h = rw (lt-ltb 0 (length s) some, le-leb kind 2 known, h)
+
+    pub good-length : {len from : ℕ} → lengthAt s 1 ≡ long.Of len from → changeOf byte n s ≡ namedChange byte s kind from len (idBytes kind n)
+    unfolding changeOf
+    good-length h = rw (lt-ltb 0 (length s) some, le-leb kind 2 known, h)
+
+-- ---- an edit behind its length
+
+module _ (byte : Classes) (s : List ℕ) (k from len ids : ℕ) where
+  pub empty-name : len ≡ 0 → namedChange byte s k from len ids ≡ BadName
+  unfolding namedChange
+  empty-name h = rw (eq-eqb len 0 h)
+
+  pub long-name : 4096 < len → namedChange byte s k from len ids ≡ BadName
+  unfolding namedChange
+  long-name h = rw (lt-ltb 4096 len h, or-true)
+
+  module _ (not-empty : len ≡ 0 → ⊥) (short : len ≤ 4096) where
+    pub cut-short : leb (from + len + ids) (length s) ≡ false → namedChange byte s k from len ids ≡ Malformed
+    unfolding namedChange
+    cut-short h = rw (ne-eqb len 0 not-empty, le-ltb 4096 len short, h)
+
+    module _ (whole : leb (from + len + ids) (length s) ≡ true) where
+      pub bad-name : validName byte (take len (drop from s)) ≡ false → namedChange byte s k from len ids ≡ BadName
+      unfolding namedChange
+      bad-name h = rw (ne-eqb len 0 not-empty, le-ltb 4096 len short, whole, h)
+
+      pub good-name : validName byte (take len (drop from s)) ≡ true
+          → namedChange byte s k from len ids ≡ Good (record { kind = k; from = from; name = len; size = from + len + ids })
+      unfolding namedChange
+      good-name h = rw (ne-eqb len 0 not-empty, le-ltb 4096 len short, whole, h)
+
+-- at most two ids of half as many bytes as digits
+pub ids-le : (kind n : ℕ) → kind ≤ 2 → idBytes kind n ≤ n
+ids-le zero n h = rw (zero-mul (n / 2)) (omega arith)
+ids-le (suc zero) n h = omega arith
+ids-le (suc (suc zero)) n h = omega arith
+ids-le (suc (suc (suc k))) n h = absurd (omega arith)
+
+-- whether the last of three lengths fits what the first two leave
+pub leb-left : (all a b k : ℕ) → a + b ≤ all → leb k (all - a - b) ≡ leb (a + b + k) all
+leb-left all a b k h = go (leb (a + b + k) all) refl
+  where
+    go : (t : Bool) → leb (a + b + k) all ≡ t → leb k (all - a - b) ≡ t
+    go true e = le-leb k (all - a - b) (omega (arith, leb-true (a + b + k) all e))
+    go false e = lt-leb k (all - a - b) (omega (arith, leb-false (a + b + k) all e))

@@ -1,0 +1,129 @@
+// One edit: kind, length of the name, name, ids in raw bytes.
+ghost use mathlib.Core.Path.{_≡_};
+ghost use Prim.Native.Nat.{_+_, _<_};
+ghost use lib.Dec.{leb};
+ghost use lib.ListN.{length};
+ghost use Rattle.class.specs.Class.{classesOf};
+ghost use Rattle.change.specs.Change.{lengthAt, namedChange, changeOf, behindName};
+
+// A length and the place behind it; or a form that a length doesn't have.
+pub enum Length {
+    Of { value: usize, next: usize },
+    Malformed,
+}
+
+// A good edit, by places counted from its start.
+pub struct Change {
+    // 0 delete, 1 update, 2 update with peeled id.
+    pub kind: u8,
+    // Where the name stands, and its length. The ids stand behind it.
+    pub from: usize,
+    pub name: usize,
+    // The bytes that the edit takes.
+    pub size: usize,
+}
+
+pub enum Reading {
+    Good(Change),
+    Malformed,
+    BadName,
+}
+
+// The length that stands at a place: groups of seven bits, low group first, top bit set on all but the last.
+pub(crate) fn length_at(s: &[u8], at: usize) -> Length
+    ensures { λ r. ⌜ r ≡ lengthAt (now (s .entry)) at ⌝ }
+{
+    if s.len() <= at {
+        return Length::Malformed;
+    }
+    let low = wide(s[at]);
+    let next = at + 1;
+    if low < 128 {
+        return Length::Of { value: low, next };
+    }
+    if s.len() <= next {
+        return Length::Malformed;
+    }
+    let high = wide(s[next]);
+    if high == 0 {
+        return Length::Malformed;
+    }
+    if 128 <= high {
+        return Length::Malformed;
+    }
+    Length::Of {
+        value: low % 128 + 128 * high,
+        next: next + 1,
+    }
+}
+
+// The edit at the front of the bytes, with ids of n digits.
+pub fn read(t: &[u8; 256], n: usize, s: &[u8]) -> Reading
+    ensures { λ r. ⌜ r ≡ changeOf (classesOf (now (t .entry))) n (now (s .entry)) ⌝ }
+{
+    if s.len() == 0 {
+        return Reading::Malformed;
+    }
+    let kind = s[0];
+    if 2 < kind {
+        return Reading::Malformed;
+    }
+    let Length::Of { value, next } = length_at(s, 1) else {
+        return Reading::Malformed;
+    };
+    behind_length(t, s, kind, next, value, wide(kind) * (n / 2))
+}
+
+// The edit whose name has this length and stands at this place, with ids of so many bytes behind it.
+fn behind_length(t: &[u8; 256], s: &[u8], kind: u8, from: usize, len: usize, ids: usize) -> Reading
+    ensures { λ r. ⌜ r ≡ namedChange (classesOf (now (t .entry))) (now (s .entry)) kind from len ids ⌝ }
+{
+    if len == 0 {
+        return Reading::BadName;
+    }
+    if 4096 < len {
+        return Reading::BadName;
+    }
+    if !stands(s, from, len, ids) {
+        return Reading::Malformed;
+    }
+    if !name::is_valid_by(t, parse::part::between(s, from, from + len)) {
+        return Reading::BadName;
+    }
+    Reading::Good(Change {
+        kind,
+        from,
+        name: len,
+        size: from + len + ids,
+    })
+}
+
+// What stands behind the name of the edit at a place: its ids.
+pub fn behind_name(list: &[u8], place: u32) -> &[u8]
+    ensures { λ r. ⌜ now r ≡ behindName (now (list .entry)) place ⌝ }
+{
+    let Length::Of { value, next } = length_at(list, place as usize + 1) else {
+        return &list[0..0];
+    };
+    parse::part::between(list, next + value, list.len())
+}
+
+// Whether a name and ids of these lengths stand there in full.
+fn stands(s: &[u8], next: usize, name: usize, ids: usize) -> bool
+    ensures { λ r. ⌜ r ≡ leb (next + name + ids) (length (now (s .entry))) ⌝ }
+{
+    if s.len() < next {
+        return false;
+    }
+    let left = s.len() - next;
+    if left < name {
+        return false;
+    }
+    ids <= left - name
+}
+
+fn wide(b: u8) -> usize
+    ensures { λ r. ⌜ (r ≡ b) × (r < 256) ⌝ }
+{
+    b as usize
+}

@@ -1,0 +1,18 @@
+-- Document 01's worked examples: the prover computes every case.
+use mathlib.Core.Path.{_≡_, refl}
+use Rattle.class.specs.Class.{isHex, isForbidden, isLineEnd}
+use Rattle.parse.specs.Part.{byteAt}
+use Rattle.parse.specs.Id.{idAt}
+use Rattle.parse.specs.Line.{eol, newlineAt, textAt}
+use Rattle.name.specs.Name.{noComponentBeginsWithDot, noLockAtTheEnd, hasSlash, noDotDot, noForbiddenByte, slashesApart, noDotAtTheEnd, noAtBrace, notTheLoneAt, validName}
+use Rattle.header.specs.Header.{headerOf}
+use Rattle.decode.specs.Record.{recordOf}
+use Rattle.iter.specs.Step.{more}
+use Rattle.iter.specs.Items.{sizeOf, itemsBehind, items}
+use Rattle.checks.specs.Check.{judgeBody, checkOf}
+use Rattle.checks.specs.Examples.{allComputed, cases}
+
+pub every-case : allComputed cases ≡ cases
+unfolding isHex isForbidden isLineEnd byteAt idAt eol newlineAt textAt headerOf recordOf more sizeOf itemsBehind items judgeBody checkOf
+    noComponentBeginsWithDot noLockAtTheEnd hasSlash noDotDot noForbiddenByte slashesApart noDotAtTheEnd noAtBrace notTheLoneAt validName
+every-case = refl

@@ -1,0 +1,4 @@
+pub mod CheckMeans
+pub mod CheckTurns
+pub mod Examples
+pub mod Passes

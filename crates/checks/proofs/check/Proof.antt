@@ -1,0 +1,57 @@
+-- `checks::check` meets its contract: 1 and 17 first, and the table's classes are the paper's.
+use mathlib.Core.Path.{_≡_, sym, ap, _∙_}
+use Rattle.class.proofs.Classes.{by-paper}
+use Rattle.checks.specs.declared.CheckAnswer.the-variants.{Done}
+use Rattle.checks.specs.Check.{checkOf, checkAnswer}
+use borrow.Author.Needs.{needs}
+use Rattle.checks.proofs.check.Statement.{statement}
+use Rattle.checks.proofs.check.Tie as tie
+
+admit-requires : tie.Need-admit-requires
+admit-requires c κs = search needs
+
+enum-known-n : tie.Need-enum-known-n
+enum-known-n c = search needs
+
+table-requires : tie.Need-table-requires
+table-requires c κs = search needs
+
+check-by-requires : tie.Need-check-by-requires
+check-by-requires c κs = search needs
+
+enum-told : tie.Need-enum-told
+enum-told c = search needs
+
+enum-told-2 : tie.Need-enum-told-2
+enum-told-2 c = search needs
+
+returns : tie.Need-returns
+unfolding checkAnswer
+returns c =
+    let t = c .before .before in
+    let k = t .before in
+    let a = k .before .before .before .before .before .args in
+    rw (sym (k .before .before .before .admit .ensures) ∙ k .before .n .given .1)
+    (ap Done (c .check-by .ensures ∙ by-paper (λ byte. checkOf byte (k .before .n .given .0 .0) (a .file .now)) (t .table .ensures)))
+
+returns-2 : tie.Need-returns-2
+unfolding checkAnswer
+returns-2 c = rw (sym (c .before .before .admit .ensures) ∙ c .enum-told .given .1)
+
+returns-3 : tie.Need-returns-3
+unfolding checkAnswer
+returns-3 c = rw (sym (c .before .before .admit .ensures) ∙ c .enum-told2 .given .1)
+
+pub check-spec : {M : Type 1} → statement M
+check-spec =
+    tie.close
+    (tie.spec
+    admit-requires
+    enum-known-n
+    table-requires
+    check-by-requires
+    enum-told
+    enum-told-2
+    returns
+    returns-2
+    returns-3)

@@ -1,0 +1,139 @@
+-- `checks::check_body` meets its contract: the items from the place reached on, judged after those before, decide the whole.
+use mathlib.Core.Path.{_≡_, refl, sym, _∙_}
+use Prim.Native.Nat.{_-_, _≤_}
+use native.Mathlib.Numerals.{add-one}
+use native.Mathlib.Omega.{arith}
+use lib.ListN.{length, drop}
+use Rattle.class.specs.Class.{classesOf}
+use Rattle.checks.specs.declared.Turn.{Turn}
+use Rattle.checks.specs.declared.Turn.the-variants.{On}
+use Rattle.iter.specs.Items.{items}
+use Rattle.checks.specs.Check.{judge, judgeBody}
+use Rattle.iter.proofs.ItemRead.{goes-on, named-is}
+use Rattle.checks.proofs.CheckTurns.{Spot, Turned, turned, judgedAfter, judged}
+use borrow.Author.Needs.{needs}
+use Rattle.checks.proofs.check_body.Statement.{statement}
+use Rattle.checks.proofs.check_body.Tie as tie
+
+abbrev Inv-loop : tie.InvT-loop
+Inv-loop t n file body place₀ count₀ last₀ place count last = (count ≤ place) × (judge n place count last (items (classesOf t) n (drop place file)) ≡ judgeBody (classesOf t) n file body)
+
+abbrev μ-loop : tie.MeasureT-loop
+μ-loop t n file body place₀ count₀ last₀ place count last = length file - place
+
+-- what a turn tells, and what the whole then comes to
+module _ (k : tie.After-take-turn Inv-loop μ-loop) where
+  abbrev here : Spot
+  here =
+      let l = k .before in
+      let a = l .before .before .before .args in
+      record { byte = classesOf (a .t .now); n = a .n; file = a .file .now; place = l .loop .place; last = l .loop .last .now }
+
+  tells : (w : Turn) → k .take-turn .result ≡ w → Turned here w
+  tells w = turned here _ w (k .take-turn .ensures)
+
+  whole : (w : Turn) → k .take-turn .result ≡ w
+      → judgedAfter here (k .before .loop .count) w ≡ judgeBody (here .byte) (here .n) (here .file) (k .before .before .before .before .args .body)
+  whole w e = sym (judged here (k .before .loop .count) w (tells w e)) ∙ k .before .loop .inv .1
+
+sub-last : tie.Need-sub-last Inv-loop μ-loop
+sub-last c = search needs
+
+part-last-start : tie.Need-part-last-start Inv-loop μ-loop
+part-last-start c = search needs
+
+part-last-end : tie.Need-part-last-end Inv-loop μ-loop
+part-last-end c = search needs
+
+loop-holds : tie.Need-loop-holds Inv-loop μ-loop
+unfolding judgeBody
+loop-holds c = (search needs, refl)
+
+take-turn-requires : tie.Need-take-turn-requires Inv-loop μ-loop
+take-turn-requires c κs = search needs
+
+enum-told : tie.Need-enum-told Inv-loop μ-loop
+enum-told c = search needs
+
+returns : tie.Need-returns Inv-loop μ-loop
+returns c = whole (c .before .before) _ (c .enum-told .given .1)
+
+enum-known-fault : tie.Need-enum-known-fault Inv-loop μ-loop
+enum-known-fault c = search needs
+
+returns-2 : tie.Need-returns-2 Inv-loop μ-loop
+returns-2 c = whole (c .before .before .before) _ (c .before .fault .given .1)
+
+enum-told-2 : tie.Need-enum-told-2 Inv-loop μ-loop
+enum-told-2 c = search needs
+
+returns-3 : tie.Need-returns-3 Inv-loop μ-loop
+returns-3 c = whole (c .before .before) _ (c .enum-told2 .given .1)
+
+enum-known-found : tie.Need-enum-known-found Inv-loop μ-loop
+enum-known-found c = search needs
+
+-- a record: its turn
+module _ (f : tie.After-found Inv-loop μ-loop) where
+  abbrev its : tie.After-take-turn Inv-loop μ-loop
+  its = f .before .before
+
+  on : Turned (here its) (On (f .found .given .0 .0))
+  on = tells its _ (f .found .given .1)
+
+sub-name-of : tie.Need-sub-name-of Inv-loop μ-loop
+sub-name-of c = omega (arith, on (c .before) .0 .inside)
+
+part-name-of-start : tie.Need-part-name-of-start Inv-loop μ-loop
+part-name-of-start c = omega (arith, on (c .before) .0 .inside)
+
+part-name-of-end : tie.Need-part-name-of-end Inv-loop μ-loop
+part-name-of-end c = search needs
+
+name-of-requires : tie.Need-name-of-requires Inv-loop μ-loop
+name-of-requires c κs = search needs
+
+add-count : tie.Need-add-count Inv-loop μ-loop
+add-count c =
+    let f = c .before .before .before in
+    omega (arith, goes-on (on f .0), its f .before .loop .inv .0, its f .before .before .before .before .good)
+
+add-place : tie.Need-add-place Inv-loop μ-loop
+add-place c =
+    let f = c .before .before .before .before in
+    omega (arith, goes-on (on f .0), its f .before .before .before .before .good)
+
+loop-less : tie.Need-loop-less Inv-loop μ-loop
+loop-less c = omega (arith, goes-on (on (c .before .before .before .before) .0))
+
+loop-again : tie.Need-loop-again Inv-loop μ-loop
+loop-again c =
+    let f = c .before .before .before .before in
+    (omega (arith, goes-on (on f .0), its f .before .loop .inv .0), rw (add-one, named-is (on f .0) (c .before .name-of .ensures)) (whole (its f) _ (f .found .given .1)))
+
+pub check-body-spec : {M : Type 1} → statement M
+check-body-spec =
+    tie.close
+    (tie.spec
+    Inv-loop
+    μ-loop
+    sub-last
+    part-last-start
+    part-last-end
+    loop-holds
+    take-turn-requires
+    enum-told
+    returns
+    enum-known-fault
+    returns-2
+    enum-told-2
+    returns-3
+    enum-known-found
+    sub-name-of
+    part-name-of-start
+    part-name-of-end
+    name-of-requires
+    add-count
+    add-place
+    loop-less
+    loop-again)

@@ -1,0 +1,57 @@
+-- Document 01's worked examples of items, records, line ends and the check: kind 1, ids of 40 digits.
+use mathlib.Core.List.{List, [], _∷_, _++_}
+use Prim.Native.Nat.{ℕ}
+use lib.ListN.{replicate}
+use Rattle.class.specs.Class.{paper}
+use Rattle.decode.specs.declared.reference.Fault.the-variants.{Id, LineEnd, Peeled}
+use Rattle.checks.specs.declared.Verdict.{Verdict}
+use Rattle.checks.specs.declared.Verdict.the-variants.{Clean, BadRecord}
+use Rattle.checks.specs.Check.{checkOf}
+use Rattle.iter.specs.Handed.{Handed, good, error, handed}
+use Rattle.iter.specs.Items.{items}
+
+-- some bytes, what iterating over them hands out, and the check's verdict on them
+pub record Case : Type 0 where
+  pub bytes : List ℕ
+  pub out : List Handed
+  pub verdict : Verdict
+
+-- the case as it computes
+abbrev pub computed : Case → Case
+computed c = record { bytes = c .bytes; out = handed 40 1 (items paper 40 (c .bytes)); verdict = checkOf paper 40 (c .bytes) }
+
+abbrev pub allComputed : List Case → List Case
+allComputed [] = []
+allComputed (c ∷ l) = computed c ∷ allComputed l
+
+-- forty digits `1`
+abbrev pub ones : List ℕ
+ones = replicate 40 49
+
+-- `refs/s/`
+abbrev pub refsS : List ℕ
+refsS = 114 ∷ 101 ∷ 102 ∷ 115 ∷ 47 ∷ 115 ∷ 47 ∷ []
+
+-- the id, a space and `refs/s/a`, then what is said
+abbrev pub line : List ℕ → List ℕ
+line behind = ones ++ 32 ∷ (refsS ++ 97 ∷ behind)
+
+-- LF is 10, CR 13; `^zz`, `b` and `x` are bytes 94, 122, 122, 98 and 120
+abbrev pub cases : List Case
+cases =
+    -- empty bytes: no items, and no records
+    record { bytes = []; out = []; verdict = Clean 0 }
+    -- an error's text is its bytes less the last one: `x` of `x` LF, nothing of `x` alone
+    ∷ record { bytes = 120 ∷ 10 ∷ []; out = error 1 (120 ∷ []) ∷ []; verdict = BadRecord 0 Id }
+    ∷ record { bytes = 120 ∷ []; out = error 1 [] ∷ []; verdict = BadRecord 0 Id }
+    -- a second line that can't be read makes the record bad, and each line is an error of its own
+    ∷ record {
+      bytes = line (10 ∷ 94 ∷ 122 ∷ 122 ∷ 10 ∷ []);
+      out = error 1 (line []) ∷ error 2 (94 ∷ 122 ∷ 122 ∷ []) ∷ [];
+      verdict = BadRecord 0 Peeled;
+    }
+    -- CR LF ends a line; a bare CR does not, and the end of the bytes does not
+    ∷ record { bytes = line (13 ∷ 10 ∷ []); out = good ones (refsS ++ 97 ∷ []) ∷ []; verdict = Clean 1 }
+    ∷ record { bytes = line (13 ∷ 98 ∷ 10 ∷ []); out = error 1 (line (13 ∷ 98 ∷ [])) ∷ []; verdict = BadRecord 0 LineEnd }
+    ∷ record { bytes = line []; out = error 1 (ones ++ 32 ∷ refsS) ∷ []; verdict = BadRecord 0 LineEnd }
+    ∷ []

@@ -1,0 +1,4 @@
+pub mod Check
+pub mod CheckMeans
+pub mod Examples
+pub mod Passes

@@ -1,0 +1,107 @@
+// The check of a whole file: every item a record, every name greater than the one before.
+ghost use mathlib.Core.Path.{_≡_};
+ghost use Rattle.class.specs.Class.{classesOf};
+ghost use Rattle.checks.specs.Check.{checkOf, checkAnswer, judgeBody, turnOf};
+use decode::reference::Fault;
+use decode::reference::Reading;
+use decode::reference::Record;
+use header::Opened;
+use parse::limit::Admission;
+
+pub enum Verdict {
+    // The file passes; so many records.
+    Clean(usize),
+    // A first line that begins with # and is no header: the length of its text.
+    BadHeader(usize),
+    // The first item that is an error, and which part of it can't be read.
+    BadRecord { place: usize, fault: Fault },
+    // The first record whose name isn't greater than the one before.
+    Unsorted(usize),
+}
+
+pub enum CheckAnswer {
+    Done(Verdict),
+    UnknownKind,
+    TooLarge,
+}
+
+pub fn check(kind: u32, file: &[u8]) -> CheckAnswer
+    ensures { λ r. ⌜ r ≡ checkAnswer kind (now (file .entry)) ⌝ }
+{
+    match parse::limit::admit(kind, file.len(), 0) {
+        Admission::Digits(n) => {
+            let t = class::table();
+            CheckAnswer::Done(check_by(&t, n, file))
+        }
+        Admission::UnknownKind => CheckAnswer::UnknownKind,
+        Admission::TooLarge => CheckAnswer::TooLarge,
+    }
+}
+
+// The same by a table of byte classes and for ids of n digits.
+pub(crate) fn check_by(t: &[u8; 256], n: usize, file: &[u8]) -> Verdict
+    ensures { λ r. ⌜ r ≡ checkOf (classesOf (now (t .entry))) n (now (file .entry)) ⌝ }
+{
+    match header::open(t, file) {
+        Opened::Unreadable(text) => Verdict::BadHeader(text),
+        Opened::Header(h) => check_body(t, n, file, h.body),
+    }
+}
+
+// The check from a place on, in one pass: only the name before is looked at again.
+pub(crate) fn check_body(t: &[u8; 256], n: usize, file: &[u8], body: usize) -> Verdict
+    ensures { λ r. ⌜ r ≡ judgeBody (classesOf (now (t .entry))) n (now (file .entry)) body ⌝ }
+{
+    let mut place = body;
+    let mut count = 0;
+    let mut last = &file[0..0];
+    loop {
+        match take_turn(t, n, file, place, last) {
+            Turn::End => {
+                return Verdict::Clean(count);
+            }
+            Turn::Bad(fault) => {
+                return Verdict::BadRecord { place, fault };
+            }
+            Turn::Unsorted => {
+                return Verdict::Unsorted(place);
+            }
+            Turn::On(found) => {
+                last = decode::reference::name_of(&file[place..], n, found);
+                count += 1;
+                place += found.size;
+            }
+        }
+    }
+}
+
+// What a pass that checks meets at a place.
+pub enum Turn {
+    // The end of the bytes.
+    End,
+    // A record whose name is greater than the one before.
+    On(Record),
+    // A record whose name is not.
+    Unsorted,
+    // No record: which part of it can't be read.
+    Bad(Fault),
+}
+
+// One turn of every pass that checks: what stands at a place, behind a record of the name last.
+pub fn take_turn(t: &[u8; 256], n: usize, file: &[u8], place: usize, last: &[u8]) -> Turn
+    ensures { λ r. ⌜ r ≡ turnOf (classesOf (now (t .entry))) n (now (file .entry)) place (now (last .entry)) ⌝ }
+{
+    if file.len() <= place {
+        return Turn::End;
+    }
+    let rest = &file[place..];
+    match decode::reference::reference(t, rest, n) {
+        Reading::Bad(fault) => Turn::Bad(fault),
+        Reading::Good(found) => {
+            if !compare::order::is_less(last, decode::reference::name_of(rest, n, found)) {
+                return Turn::Unsorted;
+            }
+            Turn::On(found)
+        }
+    }
+}

@@ -1,0 +1,3 @@
+// Comparing byte strings: their order, and whether one begins with another.
+pub mod order;
+pub mod prefix;

@@ -1,0 +1,6 @@
+pub mod Cuts
+pub mod Damage
+pub mod Front
+pub mod HeaderKept
+pub mod Resync
+pub mod TextKept

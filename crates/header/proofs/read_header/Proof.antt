@@ -1,0 +1,67 @@
+-- `header::read_header` meets its contract: the table's classes are the paper's.
+use mathlib.Core.Path.{_≡_, sym, _∙_}
+use mathlib.Core.Bool.{false}
+use mathlib.Core.List.{List}
+use Prim.Native.Nat.{ℕ}
+use lib.ListN.{length}
+use Rattle.class.specs.Class.{paper}
+use Rattle.parse.specs.Limit.{overLimit}
+use Rattle.class.proofs.Classes.{by-paper}
+use Rattle.header.specs.Header.{headerOf, headerAnswer}
+use borrow.Author.Needs.{needs}
+use Rattle.header.proofs.read_header.Statement.{statement}
+use Rattle.header.proofs.read_header.Tie as tie
+
+-- the file is not too large, and its header is read
+module _ (o : tie.After-open) where
+  abbrev unlimited : tie.Else1
+  unlimited = o .before .before .before
+
+  abbrev file : List ℕ
+  file = unlimited .before .before .before .args .file .now
+
+  within : overLimit (length file) ≡ false
+  within = sym (unlimited .before .over-limit .ensures) ∙ unlimited .if1 .left
+
+  is-opened : headerOf paper file ≡ o .open .result
+  is-opened = sym (by-paper (λ byte. headerOf byte file) (o .before .before .table .ensures)) ∙ sym (o .open .ensures)
+
+over-limit-requires : tie.Need-over-limit-requires
+over-limit-requires c κs = search needs
+
+returns : tie.Need-returns
+unfolding headerAnswer
+returns c = rw (sym (c .before .over-limit .ensures) ∙ c .if1 .taken)
+
+table-requires : tie.Need-table-requires
+table-requires c κs = search needs
+
+open-requires : tie.Need-open-requires
+open-requires c κs = search needs
+
+enum-known-h : tie.Need-enum-known-h
+enum-known-h c = search needs
+
+enum-known-text : tie.Need-enum-known-text
+enum-known-text c = search needs
+
+returns-2 : tie.Need-returns-2
+unfolding headerAnswer
+returns-2 c = let o = c .before .before .before in rw (within o, is-opened o, c .before .h .given .1)
+
+returns-3 : tie.Need-returns-3
+unfolding headerAnswer
+returns-3 c = let o = c .before .before .before in rw (within o, is-opened o, c .before .text .given .1)
+
+pub read-header-spec : {M : Type 1} → statement M
+read-header-spec =
+    tie.close
+    (tie.spec
+    over-limit-requires
+    returns
+    table-requires
+    open-requires
+    enum-known-h
+    enum-known-text
+    returns-2
+    returns-3)

@@ -1,0 +1,4 @@
+pub mod Names
+pub mod Places
+pub mod Strings
+pub mod Texts

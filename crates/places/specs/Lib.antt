@@ -1,0 +1,4 @@
+pub mod Laws
+pub mod Letter
+pub mod Name
+pub mod Order
