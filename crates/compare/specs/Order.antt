@@ -21,3 +21,9 @@ isLess Greater = false
 
 abbrev pub smaller : List ℕ → List ℕ → Bool
 smaller a b = isLess (orderOf a b)
+
+-- one of three, by an order
+abbrev pub byOrder {ℓ} : {A : Type ℓ} → Order → A → A → A → A
+byOrder Less a b c = a
+byOrder Equal a b c = b
+byOrder Greater a b c = c

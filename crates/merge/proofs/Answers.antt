@@ -6,7 +6,7 @@ use Prim.Native.Nat.{ℕ, _≤_, _<_}
 use lib.ListN.{length}
 use borrow.Author.Tests.{eq-eqb, ne-eqb, lt-ltb, le-ltb}
 use Rattle.merge.specs.declared.Merged.the-variants.{Done, NothingToDo, NoRecord, ShortOutput}
-use Rattle.merge.specs.Runs.{splicedAnswer}
+use Rattle.merge.specs.Splice.{splicedAnswer}
 
 module _ (still : Bool) (new : List ℕ) (room : ℕ) where
   pub nothing-to-do : still ≡ true → splicedAnswer still new room ≡ NothingToDo

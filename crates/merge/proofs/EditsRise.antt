@@ -28,7 +28,7 @@ use Rattle.edit.specs.declared.list.Prepared.the-variants.{Ready, ShortIndex, T
 use Rattle.edit.specs.List.{Listed, all, malformed, badName, tooMany, editsOf, placesOf, inOrder, twinsBy, twinsOf, preparedBy, preparedOf}
 use Rattle.edit.proofs.Ordering.{length-order}
 use Rattle.merge.specs.Entry.{editsAt}
-use Rattle.merge.specs.Runs.{Above, Rising}
+use Rattle.merge.specs.Splice.{Above, Rising}
 use Rattle.merge.proofs.EditsSound.{IsEdit, places-edits, edit-name-valid, edit-puts}
 use Rattle.merge.proofs.Entries.{Rises}
 

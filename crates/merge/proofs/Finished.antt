@@ -9,7 +9,7 @@ use lib.ListN.{length, length-append}
 use borrow.Author.Tests.{eq-eqb, ne-eqb}
 use Rattle.merge.specs.Entry.{Entry, Edit, recordLine, objectLines, linesOf, linesOfAll}
 use Rattle.merge.specs.Merge.{overridden, isNone, isIdle, headerLine, newFile, finished}
-use Rattle.merge.specs.Runs.{splicedAnswer}
+use Rattle.merge.specs.Splice.{splicedAnswer}
 
 -- a record's line holds at least a space
 lines-some : (e : Entry) → 0 < length (linesOf e)

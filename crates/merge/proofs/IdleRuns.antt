@@ -26,12 +26,13 @@ use Rattle.put.specs.Put.{over}
 use Rattle.put.proofs.Laws.{over-fits}
 use Rattle.merge.specs.Entry.{Entry, newOf, entryOf, entriesOf, editsAt}
 use Rattle.merge.specs.Merge.{isNone, hasName, isIdle}
-use Rattle.merge.specs.Runs.{Run, runsOf, atEnd, marksOf, isStill, Above, Rising}
+use Rattle.runs.specs.Runs.{Run, runsOf, atEnd, marksOf, isStill}
+use Rattle.merge.specs.Splice.{Above, Rising}
 use Rattle.merge.proofs.Entries.{Ascends}
 use Rattle.merge.proofs.OldSound.{olds-ascend}
 use Rattle.merge.proofs.Overriding.{same-greater, lower}
-use Rattle.merge.proofs.RunSteps.{runs-less, runs-equal, runs-greater, length-runs}
-use Rattle.merge.proofs.RunTurns.{length-marks}
+use Rattle.runs.proofs.RunSteps.{runs-less, runs-equal, runs-greater, length-runs}
+use Rattle.runs.proofs.RunTurns.{length-marks}
 
 -- ---- names
 

@@ -8,17 +8,13 @@ pub mod Examples
 pub mod Finished
 pub mod GoodItems
 pub mod IdleRuns
-pub mod Marks
 pub mod NewFile
 pub mod OldLines
 pub mod OldSound
 pub mod Overriding
 pub mod ReadBack
 pub mod Ready
-pub mod RunSteps
-pub mod RunTurns
 pub mod Splice
-pub mod Still
 pub mod Theorems
 pub mod WrittenFile
 pub mod WrittenHeader

@@ -21,10 +21,11 @@ use Rattle.put.specs.Text.{withoutCR}
 use Rattle.put.proofs.Laws.{over-fits, without-append}
 use Rattle.merge.specs.Entry.{Entry, Edit, linesOf, linesOfAll, entryOf, entriesOf, editAt, editsAt}
 use Rattle.merge.specs.Merge.{overridden, headerLine, newFile}
-use Rattle.merge.specs.Runs.{Run, run, runsOf, marksOf, spliced, splicedFile}
+use Rattle.runs.specs.Runs.{Run, run, runsOf, marksOf}
+use Rattle.merge.specs.Splice.{spliced, splicedFile}
 use Rattle.merge.proofs.OldLines.{AllPlain, olds-plain}
-use Rattle.merge.proofs.RunSteps.{runs-less, runs-equal, runs-greater, length-runs}
-use Rattle.merge.proofs.RunTurns.{length-marks}
+use Rattle.runs.proofs.RunSteps.{runs-less, runs-equal, runs-greater, length-runs}
+use Rattle.runs.proofs.RunTurns.{length-marks}
 use Rattle.merge.proofs.Splice.{newLines, oldBytes}
 
 -- ---- lines of more than one entry

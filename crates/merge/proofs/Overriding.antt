@@ -11,7 +11,8 @@ use Rattle.compare.specs.Order.{orderOf}
 use Rattle.compare.proofs.Orders.{order-equal, less-flip, greater-flip, less-trans}
 use Rattle.places.specs.Order.{isEqual, same}
 use Rattle.merge.specs.Entry.{Entry, Edit}
-use Rattle.merge.specs.Merge.{byOrder, overridden}
+use Rattle.compare.specs.Order.{byOrder}
+use Rattle.merge.specs.Merge.{overridden}
 use Rattle.merge.specs.Theorems.{entryNamed, leftBy, afterEdits}
 use Rattle.merge.proofs.Entries.{Sound, AllSound, Ascends, AllOf, Rises}
 

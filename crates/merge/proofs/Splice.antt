@@ -16,7 +16,7 @@ use Rattle.put.specs.Put.{over}
 use Rattle.put.specs.Text.{hexText, withoutCR}
 use Rattle.put.proofs.Laws.{over-twice, length-hex, length-without}
 use Rattle.merge.specs.Entry.{recordLine, objectLine, linesOfAll, newOf, editAt}
-use Rattle.merge.specs.Runs.{spliced}
+use Rattle.merge.specs.Splice.{spliced}
 
 -- ---- texts put one behind another
 

@@ -1,5 +1,5 @@
 pub mod Entry
 pub mod Examples
 pub mod Merge
-pub mod Runs
+pub mod Splice
 pub mod Theorems

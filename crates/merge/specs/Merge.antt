@@ -4,12 +4,10 @@ use mathlib.Core.List.{List, [], _∷_, _++_}
 use Prim.Native.Nat.{ℕ}
 use lib.Dec.{ltb}
 use lib.ListN.{length, drop}
-use Rattle.compare.specs.declared.order.Order.{Order}
-use Rattle.compare.specs.declared.order.Order.the-variants.{Less, Equal, Greater}
 use Rattle.parse.specs.Choice.{if}
 use Rattle.class.specs.Class.{Classes, paper}
 use Rattle.parse.specs.Limit.{admission, admit}
-use Rattle.compare.specs.Order.{orderOf}
+use Rattle.compare.specs.Order.{orderOf, byOrder}
 use Rattle.header.specs.declared.Opened.{Opened}
 use Rattle.header.specs.declared.Opened.the-variants.{Header, Unreadable}
 use Rattle.header.specs.Header.{headerOf}
@@ -27,11 +25,6 @@ use Rattle.merge.specs.declared.Merged.the-variants.{Done, UnknownKind, 
 use Rattle.merge.specs.Entry.{Entry, Edit, linesOfAll, entriesOf, editsAt}
 
 -- ---- the new records
-
-abbrev pub byOrder {ℓ} : {A : Type ℓ} → Order → A → A → A → A
-byOrder Less a b c = a
-byOrder Equal a b c = b
-byOrder Greater a b c = c
 
 -- "the old records overridden by the edits, in name order": both come in name order, and where both have a name the edit counts
 abbrev pub overridden : List Entry → List Edit → List Entry

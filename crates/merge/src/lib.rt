@@ -12,14 +12,14 @@ ghost use Rattle.iter.specs.Items.{items};
 ghost use Rattle.edit.specs.List.{indexAfter};
 ghost use Rattle.merge.specs.Entry.{entriesOf, editsAt};
 ghost use Rattle.merge.specs.Merge.{mergeAnswer, outputAfter, indexAnswer, mergeOf, outputBy, newFile, oldEntries, editsInOrder, judged, judgedBy};
-ghost use Rattle.merge.specs.Runs.{splicedFile, splicedAnswer, isStill, Rising};
+ghost use Rattle.runs.specs.Runs.{isStill};
+ghost use Rattle.merge.specs.Splice.{splicedFile, splicedAnswer, Rising};
 use checks::Verdict;
 use decode::reference::Fault;
 use edit::list::Prepared;
 use header::Opened;
 use parse::limit::Admission;
 
-mod runs;
 mod write;
 
 pub enum Merged {

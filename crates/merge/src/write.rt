@@ -5,7 +5,7 @@ ghost use lib.ListN.{length, getD};
 ghost use Rattle.put.specs.Put.{over};
 ghost use Rattle.put.specs.Text.{hexText};
 ghost use Rattle.merge.specs.Entry.{linesOfAll, editAt, recordLine, objectLine};
-ghost use Rattle.merge.specs.Runs.{splicedFile};
+ghost use Rattle.merge.specs.Splice.{splicedFile};
 
 // As far as there is room; gives the length of the whole, so that with no room at all it measures.
 pub(crate) fn write(
@@ -40,7 +40,7 @@ fn put_new(n: usize, list: &[u8], place: u32, out: &mut [u8], at: usize) -> usiz
     ensures { λ r. ⌜ r ≡ length (linesOfAll (editAt n (now (list .entry)) place .new)) ⌝ }
     ensures { λ _. ⌜ now (out .exit) ≡ over (now (out .entry)) at (linesOfAll (editAt n (now (list .entry)) place .new)) ⌝ }
 {
-    let kind = crate::runs::kind_at(list, place);
+    let kind = runs::kind_at(list, place);
     if kind == 0 {
         return 0;
     }

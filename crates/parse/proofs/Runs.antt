@@ -1,8 +1,9 @@
 -- Runs at a place of a list: at the end, at a byte that fails the test, at one that passes. For any test.
-use mathlib.Core.Path.{_≡_, refl, ap}
+use mathlib.Core.Path.{_≡_, _∙_}
 use mathlib.Core.Bool.{Bool, true, false}
 use mathlib.Core.List.{List, [], _∷_}
-use Prim.Native.Nat.{ℕ, suc, _+_, _≤_, _<_}
+use Prim.Native.Nat.{ℕ, zero, suc, _+_, _≤_, _<_}
+use native.Mathlib.Nat.{add-zero, add-suc}
 use native.Mathlib.Numerals.{add-one}
 use native.Mathlib.Omega.{arith}
 use lib.Dec.{eqb}
@@ -21,6 +22,15 @@ module _ (p : ℕ → Bool) (s : List ℕ) (i : ℕ) where
 
   pub span-go : i < length s → p (getD s i 0) ≡ true → i + span p (drop i s) ≡ (i + 1) + span p (drop (i + 1) s)
   span-go h e = rw (drop-cons s i 0 h, e, add-one i) (omega arith)
+
+-- bytes that pass the test are passed over
+pub skip : (p : ℕ → Bool) (s : List ℕ) (i n : ℕ) → i + n ≤ length s → ((k : ℕ) → k < n → p (getD s (i + k) 0) ≡ true)
+    → i + span p (drop i s) ≡ (i + n) + span p (drop (i + n) s)
+skip p s i zero h all = rw add-zero
+skip p s i (suc n) h all =
+    skip p s i n (omega arith) (λ k l. all k (omega arith))
+    ∙ span-go p s (i + n) (omega arith) (all n (omega arith))
+    ∙ rw (add-suc i n, add-one (i + n))
 
 pub span-le : (p : ℕ → Bool) (s : List ℕ) → span p s ≤ length s
 span-le p [] = omega arith

@@ -2,8 +2,8 @@
 use mathlib.Core.Path.{_≡_, refl, sym, ap, _∙_}
 use mathlib.Core.Bool.{Bool, true, false, not, _||_, false≢true}
 use mathlib.Core.List.{List, [], _∷_, _++_}
-use Prim.Native.Nat.{ℕ, zero, suc, _+_, _-_, _/_, _%_, _≤_, _<_, min}
-use native.Mathlib.Nat.{add-zero, add-suc, zero-add}
+use Prim.Native.Nat.{ℕ, suc, _+_, _-_, _/_, _%_, _≤_, _<_, min}
+use native.Mathlib.Nat.{zero-add}
 use native.Mathlib.Numerals.{add-one}
 use native.Mathlib.Omega.{arith}
 use lib.Dec.{leb}
@@ -13,7 +13,7 @@ use borrow.Author.Tests.{leb-true, leb-false}
 use Rattle.class.specs.Class.{valuesFrom}
 use Rattle.parse.specs.Run.{span}
 use Rattle.class.proofs.Classes.{value-at}
-use Rattle.parse.proofs.Runs.{span-go, span-le}
+use Rattle.parse.proofs.Runs.{span-le}
 use Rattle.put.specs.Put.{over}
 use Rattle.put.specs.Text.{hexDigit, hexText, notCR, withoutCR}
 use Rattle.put.proofs.Laws.{over-nil, over-beyond, over-byte, over-twice, without-piece}
@@ -58,15 +58,6 @@ pub hex-end : (d s : List ℕ) (o i : ℕ) → length s ≤ i → over d o (hexT
 hex-end d s o i h = ap (λ l. over d o (hexText l)) (drop-of-length-le s h) ∙ over-nil d o
 
 -- ---- the next CR
-
--- bytes that pass the test are passed over
-pub skip : (p : ℕ → Bool) (s : List ℕ) (i n : ℕ) → i + n ≤ length s → ((k : ℕ) → k < n → p (getD s (i + k) 0) ≡ true)
-    → i + span p (drop i s) ≡ (i + n) + span p (drop (i + n) s)
-skip p s i zero h all = rw add-zero
-skip p s i (suc n) h all =
-    skip p s i n (omega arith) (λ k l. all k (omega arith))
-    ∙ span-go p s (i + n) (omega arith) (all n (omega arith))
-    ∙ rw (add-suc i n, add-one (i + n))
 
 pub neither : (a b : Bool) → a || b ≡ false → (a ≡ false) × (not b ≡ true)
 neither true b e = absurd (false≢true (sym e))

@@ -1,7 +1,7 @@
 -- `merge::behind_header` meets its contract: the file that is spliced from the runs is the new file.
 use mathlib.Core.Path.{_≡_, refl, sym, ap, _∙_}
-use mathlib.Core.List.{List}
-use Prim.Native.Nat.{ℕ}
+use mathlib.Core.List.{List, []}
+use Prim.Native.Nat.{ℕ, _*_, _≤_}
 use lib.ListN.{length, drop}
 use Rattle.class.specs.Class.{paper}
 use Rattle.class.proofs.Classes.{by-paper}
@@ -10,7 +10,8 @@ use Rattle.iter.specs.Items.{items}
 use Rattle.merge.specs.Entry.{Entry, Edit, entriesOf, editsAt}
 use Rattle.put.specs.Put.{over}
 use Rattle.merge.specs.Merge.{judgedBy, outputBy}
-use Rattle.merge.specs.Runs.{runsOf, marksOf}
+use Rattle.runs.specs.Runs.{surveyed, marksOf}
+use Rattle.runs.proofs.RunTurns.{surveyed-body}
 use Rattle.merge.proofs.Finished.{finished-is}
 use Rattle.merge.proofs.IdleRuns.{idle-is-still}
 use Rattle.merge.proofs.NewFile.{spliced-is-new}
@@ -34,6 +35,10 @@ module _ (v : tie.After-survey) where
 
   verdict-is : judgeBody paper (start .args .n) (start .args .old .now) (start .args .body) ≡ v .survey .result
   verdict-is = sym (v .survey .ensures .0 ∙ by-paper (λ byte. judgeBody byte (start .args .n) (start .args .old .now) (start .args .body)) (start .pre .0))
+
+  -- there is a mark for both ends of each run
+  enough : 2 * length (start .args .index .now) ≤ length (v .before .before .no-marks .result)
+  enough = search needs
 
 no-marks-requires : tie.Need-no-marks-requires
 no-marks-requires c κs = search needs
@@ -75,10 +80,11 @@ returns c =
     let count = told .enum-told .given .0 .0 in
     let fresh = v .before .before .no-marks .result in
     let marked = v .survey .last .1 .1 .1 .1 .1 .1 .0 in
-    let enough = survey-requires (v .before) (v .survey .lifetimes) in
-    let marks = v .survey .ensures .1 count (told .enum-told .given .1) ∙ by-paper (λ byte. over fresh 0 (marksOf (runsOf (a .n) (a .list .now) (a .body) (items byte (a .n) (drop (a .body) (a .old .now))) (a .index .now)))) (start v .pre .0) in
-    let new = spliced-is-new (a .n) (a .old .now) (a .body) (a .list .now) (a .index .now) fresh marked count clean enough marks in
-    let still = idle-is-still (a .n) (a .old .now) (a .list .now) (a .body) count (a .index .now) fresh marked clean (start v .pre .5) enough marks in (
+    let marks = v .survey .ensures .1
+    ∙ by-paper (λ byte. over fresh 0 (marksOf (surveyed (a .n) (a .list .now) (a .body) [] (items byte (a .n) (drop (a .body) (a .old .now))) (a .index .now)))) (start v .pre .0)
+    ∙ ap (λ l. over fresh 0 (marksOf l)) (surveyed-body paper (a .n) (a .old .now) (a .list .now) (a .body) (a .index .now) count clean) in
+    let new = spliced-is-new (a .n) (a .old .now) (a .body) (a .list .now) (a .index .now) fresh marked count clean (enough v) marks in
+    let still = idle-is-still (a .n) (a .old .now) (a .list .now) (a .body) count (a .index .now) fresh marked clean (start v .pre .5) (enough v) marks in (
       f .finish .ensures .0 ∙ finished-is _ _ (olds v) (edits v) (room v) still new ∙ ap (judgedBy (olds v) (edits v) (room v)) (sym clean),
       f .finish .ensures .1 ∙ ap (λ x. outputBy x (a .out .now) (f .finish .result)) new,
     )

@@ -8,7 +8,8 @@ use lib.ListN.{length, drop}
 use Rattle.put.specs.Put.{over}
 use Rattle.put.proofs.Laws.{over-beyond, over-fits}
 use Rattle.merge.specs.declared.Merged.the-variants.{Done}
-use Rattle.merge.specs.Runs.{splicedFile, isStill}
+use Rattle.runs.specs.Runs.{isStill}
+use Rattle.merge.specs.Splice.{splicedFile}
 use Rattle.merge.proofs.Answers.{nothing-to-do, no-record, short-output, all-done}
 use borrow.Author.Needs.{needs}
 use Rattle.merge.proofs.finish.Statement.{statement}

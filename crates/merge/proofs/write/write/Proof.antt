@@ -8,7 +8,7 @@ use Rattle.parse.proofs.Slices.{rest-is}
 use Rattle.put.specs.Put.{over}
 use Rattle.put.specs.Text.{withoutCR}
 use Rattle.merge.specs.Merge.{headerLine}
-use Rattle.merge.specs.Runs.{splicedFile}
+use Rattle.merge.specs.Splice.{splicedFile}
 use Rattle.merge.proofs.Splice.{over-then, length-new, oldBytes, length-old, splicedFrom, spliced-end, put-turn}
 use borrow.Author.Needs.{needs}
 use Rattle.merge.proofs.write.write.Statement.{statement}

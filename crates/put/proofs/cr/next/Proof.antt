@@ -4,9 +4,8 @@ use Prim.Native.Nat.{_+_, _-_}
 use native.Mathlib.Omega.{arith}
 use lib.ListN.{drop}
 use Rattle.parse.specs.Run.{span}
-use Rattle.parse.proofs.Runs.{span-end}
+use Rattle.parse.proofs.Runs.{span-end, skip}
 use Rattle.put.specs.Text.{notCR}
-use Rattle.put.proofs.Turns.{skip}
 use borrow.Author.Needs.{needs}
 use Rattle.put.proofs.cr.next.Statement.{statement}
 use Rattle.put.proofs.cr.next.Tie as tie

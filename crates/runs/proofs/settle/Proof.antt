@@ -1,22 +1,22 @@
--- `merge::runs::settle` meets its contract: the edits up to the first of a greater name are settled, one after another.
+-- `runs::settle` meets its contract: the edits up to the first of a greater name are settled, one after another.
 use mathlib.Core.Path.{_≡_, refl, sym, ap, _∙_}
 use mathlib.Core.List.{List}
-use Prim.Native.Nat.{ℕ, _-_, _≤_, _<_}
+use Prim.Native.Nat.{ℕ, _-_, _<_}
 use lib.ListN.{getD, length, drop}
 use Rattle.compare.specs.Order.{orderOf}
 use Rattle.places.specs.Name.{editName}
-use Rattle.merge.specs.Runs.{Run, settles}
-use Rattle.merge.proofs.Marks.{Going, begin, ends, ends-with, goes-on, settles-end, settles-less, settles-equal, settles-greater}
+use Rattle.runs.specs.Runs.{Run, settles}
+use Rattle.runs.proofs.Marks.{Going, begin, ends, ends-with, goes-on, settles-end, settles-less, settles-equal, settles-greater}
 use borrow.Author.Needs.{needs}
-use Rattle.merge.proofs.runs.settle.Statement.{statement}
-use Rattle.merge.proofs.runs.settle.Tie as tie
+use Rattle.runs.proofs.settle.Statement.{statement}
+use Rattle.runs.proofs.settle.Tie as tie
 
 abbrev left : List ℕ → List ℕ → List ℕ → ℕ → ℕ → ℕ → List Run
 left list index name place next j = settles list name place next (drop j index)
 
 abbrev Inv-loop : tie.InvT-loop
 Inv-loop list index from name place next marks₀ j₀ marks j =
-    (j ≤ length index) × (length marks ≡ length marks₀) × Going (left list index name place next) from marks₀ j marks
+    (length marks ≡ length marks₀) × Going (left list index name place next) from marks₀ j marks
 
 abbrev μ-loop : tie.MeasureT-loop
 μ-loop list index from name place next marks₀ j₀ marks j = length index - j
@@ -66,7 +66,7 @@ module _ (k : tie.After-compare Inv-loop μ-loop) where
   order-is = ap (orderOf (name turn)) (sym (k .before .edit-name .ensures)) ∙ sym (k .compare .ensures)
 
 loop-holds : tie.Need-loop-holds Inv-loop μ-loop
-loop-holds c = (search needs, refl, begin _ _ _)
+loop-holds c = (refl, begin _ _ _)
 
 mul-edit-name : tie.Need-mul-edit-name Inv-loop μ-loop
 mul-edit-name c = search needs
@@ -90,10 +90,13 @@ returns : tie.Need-returns Inv-loop μ-loop
 returns c =
     let k = c .before .before in
     let l = turn k in
-    ends (runs l) (from l) (marks₀ l) (j l) (marks l) (l .loop .inv .2) (settles-less (list l) (index l) (name l) (place l) (next l) (j l) (inside k) (order-is k ∙ c .enum-told .given .1))
+    ends (runs l) (from l) (marks₀ l) (j l) (marks l) (l .loop .inv .1) (settles-less (list l) (index l) (name l) (place l) (next l) (j l) (inside k) (order-is k ∙ c .enum-told .given .1))
 
 enum-told-2 : tie.Need-enum-told-2 Inv-loop μ-loop
 enum-told-2 c = search needs
+
+mul-mark : tie.Need-mul-mark Inv-loop μ-loop
+mul-mark c = search needs
 
 mark-requires : tie.Need-mark-requires Inv-loop μ-loop
 mark-requires c κs = search needs
@@ -109,11 +112,14 @@ returns-2 c =
     let m = c .before .before in
     let k = m .before .before .before .before in
     let l = turn k in
-    ends-with (runs l) (from l) (marks₀ l) (j l) (marks l) (l .loop .inv .2) (place l) (next l) (m .mark .last .0) (m .mark .ensures)
+    ends-with (runs l) (from l) (marks₀ l) (j l) (marks l) (l .loop .inv .1) (place l) (next l) (m .mark .last .0) (m .mark .ensures)
     (settles-equal (list l) (index l) (name l) (place l) (next l) (j l) (inside k) (order-is k ∙ m .before .before .enum-told2 .given .1))
 
 enum-told-3 : tie.Need-enum-told-3 Inv-loop μ-loop
 enum-told-3 c = search needs
+
+mul-mark-2 : tie.Need-mul-mark-2 Inv-loop μ-loop
+mul-mark-2 c = search needs
 
 mark-requires-2 : tie.Need-mark-requires-2 Inv-loop μ-loop
 mark-requires-2 c κs = search needs
@@ -129,9 +135,8 @@ loop-again c =
     let m = c .before .before in
     let k = m .before .before .before .before in
     let l = turn k in (
-      search needs,
-      m .mark2 .kept .0 ∙ l .loop .inv .1,
-      goes-on (runs l) (from l) (marks₀ l) (j l) (marks l) (l .loop .inv .2) (place l) (place l) (m .mark2 .last .0) (m .mark2 .ensures)
+      m .mark2 .kept .0 ∙ l .loop .inv .0,
+      goes-on (runs l) (from l) (marks₀ l) (j l) (marks l) (l .loop .inv .1) (place l) (place l) (m .mark2 .last .0) (m .mark2 .ensures)
           (settles-greater (list l) (index l) (name l) (place l) (next l) (j l) (inside k) (order-is k ∙ m .before .before .enum-told3 .given .1)),
     )
 
@@ -141,7 +146,7 @@ same-length-3 c = search needs
 returns-3 : tie.Need-returns-3 Inv-loop μ-loop
 returns-3 c =
     let l = c .before in
-    ends (runs l) (from l) (marks₀ l) (j l) (marks l) (l .loop .inv .2) (settles-end (list l) (index l) (name l) (place l) (next l) (j l) (c .loop-test .left))
+    ends (runs l) (from l) (marks₀ l) (j l) (marks l) (l .loop .inv .1) (settles-end (list l) (index l) (name l) (place l) (next l) (j l) (c .loop-test .left))
 
 pub settle-spec : {M : Type 1} → statement M
 settle-spec =
@@ -158,11 +163,13 @@ settle-spec =
     same-length
     returns
     enum-told-2
+    mul-mark
     mark-requires
     add-result
     same-length-2
     returns-2
     enum-told-3
+    mul-mark-2
     mark-requires-2
     add-j
     loop-less

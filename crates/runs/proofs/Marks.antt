@@ -11,7 +11,7 @@ use Rattle.compare.specs.Order.{orderOf}
 use Rattle.places.specs.Name.{editName}
 use Rattle.put.specs.Put.{over}
 use Rattle.put.proofs.Laws.{over-nil, over-twice}
-use Rattle.merge.specs.Runs.{Run, run, settles, atEnd, marksOf}
+use Rattle.runs.specs.Runs.{Run, run, settles, atEnd, marksOf}
 
 -- ---- marking runs one after another: those that are left at number j, marked from there on, make what those from number `from` on make
 

@@ -1,10 +1,10 @@
--- `merge::runs::survey` meets its contract: the check goes as in `iter`, and beside it each record settles its edits.
+-- `runs::survey` meets its contract: the check goes as in `iter`, and beside it each record settles its edits.
 use mathlib.Core.Path.{_≡_, refl, sym, ap, _∙_}
-use mathlib.Core.List.{List}
+use mathlib.Core.List.{List, []}
 use Prim.Native.Nat.{ℕ, _+_, _*_, _-_, _≤_}
 use native.Mathlib.Numerals.{add-one}
 use native.Mathlib.Omega.{arith}
-use lib.ListN.{length, drop, length-drop}
+use lib.ListN.{length, drop}
 use Rattle.class.specs.Class.{classesOf}
 use Rattle.decode.specs.declared.reference.Record.{Record}
 use Rattle.checks.specs.declared.Turn.{Turn}
@@ -14,19 +14,18 @@ use Rattle.checks.specs.Check.{judge, judgeBody}
 use Rattle.iter.proofs.ItemRead.{goes-on, named, named-is}
 use Rattle.checks.proofs.CheckTurns.{Spot, Turned, turned, judgedAfter, judged}
 use Rattle.put.specs.Put.{over}
-use Rattle.merge.specs.Runs.{Run, settles, marksOf}
-use Rattle.merge.proofs.RunTurns.{marked, marked-end, marked-on, settles-le}
+use Rattle.runs.specs.Runs.{Run, settles, marksOf}
+use Rattle.runs.proofs.RunTurns.{marked, marked-end, marked-bad, marked-unsorted, marked-on}
 use borrow.Author.Needs.{needs}
-use Rattle.merge.proofs.runs.survey.Statement.{statement}
-use Rattle.merge.proofs.runs.survey.Tie as tie
+use Rattle.runs.proofs.survey.Statement.{statement}
+use Rattle.runs.proofs.survey.Tie as tie
 
 abbrev Inv-loop : tie.InvT-loop
 Inv-loop t n file body list index marks₀ place₀ count₀ last₀ j₀ marks place count last j =
     (count ≤ place)
-    × (j ≤ length index)
     × (length marks ≡ length marks₀)
     × (judge n place count last (items (classesOf t) n (drop place file)) ≡ judgeBody (classesOf t) n file body)
-    × (marked (classesOf t) n file list index place j marks ≡ marked (classesOf t) n file list index body 0 marks₀)
+    × (marked (classesOf t) n file list index place last j marks ≡ marked (classesOf t) n file list index body [] 0 marks₀)
 
 abbrev μ-loop : tie.MeasureT-loop
 μ-loop t n file body list index marks₀ place₀ count₀ last₀ j₀ marks place count last j = length file - place
@@ -55,7 +54,7 @@ module _ (k : tie.After-take-turn Inv-loop μ-loop) where
   tells w = turned here _ w (k .take-turn .ensures)
 
   whole : (w : Turn) → k .take-turn .result ≡ w → judgedAfter here (l .loop .count) w ≡ judgeBody (here .byte) (here .n) (here .file) (start .args .body)
-  whole w e = sym (judged here (l .loop .count) w (tells w e)) ∙ l .loop .inv .3
+  whole w e = sym (judged here (l .loop .count) w (tells w e)) ∙ l .loop .inv .2
 
 -- a record: its turn, and the edits that it settles
 module _ (f : tie.After-found Inv-loop μ-loop) where
@@ -82,7 +81,7 @@ part-last-end c = search needs
 
 loop-holds : tie.Need-loop-holds Inv-loop μ-loop
 unfolding judgeBody
-loop-holds c = (search needs, search needs, refl, refl, refl)
+loop-holds c = (search needs, refl, refl, refl)
 
 take-turn-requires : tie.Need-take-turn-requires Inv-loop μ-loop
 take-turn-requires c κs = search needs
@@ -102,12 +101,8 @@ returns c =
     let told = e .before .before in
     let k = told .before .before in
     let s = here k in
-    let end = tells k _ (told .enum-told .given .1) in (
-      whole k _ (told .enum-told .given .1),
-      λ count z. e .settle-rest .ensures
-          ∙ sym (marked-end (s .byte) (s .n) (s .file) (list k) (index k) (s .place) (l k .loop .j) (l k .loop .marks) end)
-          ∙ l k .loop .inv .4,
-    )
+    let end = marked-end (s .byte) (s .n) (s .file) (list k) (index k) (s .place) (s .last) (l k .loop .j) (l k .loop .marks) (tells k _ (told .enum-told .given .1)) in
+    (whole k _ (told .enum-told .given .1), e .settle-rest .ensures ∙ sym end ∙ l k .loop .inv .3)
 
 enum-known-fault : tie.Need-enum-known-fault Inv-loop μ-loop
 enum-known-fault c = search needs
@@ -117,7 +112,10 @@ same-length-2 c = search needs
 
 returns-2 : tie.Need-returns-2 Inv-loop μ-loop
 returns-2 c =
-    (whole (c .before .before .before) _ (c .before .fault .given .1), λ count e. absurd (let z : _≡_ {A = ℕ} 0 1 = cc in omega arith))
+    let k = c .before .before .before in
+    let s = here k in
+    let stop = marked-bad (s .byte) (s .n) (s .file) (list k) (index k) (s .place) (s .last) (l k .loop .j) (l k .loop .marks) (tells k _ (c .before .fault .given .1)) in
+    (whole k _ (c .before .fault .given .1), sym stop ∙ l k .loop .inv .3)
 
 enum-told-2 : tie.Need-enum-told-2 Inv-loop μ-loop
 enum-told-2 c = search needs
@@ -127,7 +125,11 @@ same-length-3 c = search needs
 
 returns-3 : tie.Need-returns-3 Inv-loop μ-loop
 returns-3 c =
-    (whole (c .before .before) _ (c .enum-told2 .given .1), λ count e. absurd (let z : _≡_ {A = ℕ} 0 1 = cc in omega arith))
+    let k = c .before .before in
+    let s = here k in
+    let t = tells k _ (c .enum-told2 .given .1) in
+    let stop = marked-unsorted (s .byte) (s .n) (s .file) (list k) (index k) (s .place) (s .last) (l k .loop .j) (l k .loop .marks) (t .1) (t .2) in
+    (whole k _ (c .enum-told2 .given .1), sym stop ∙ l k .loop .inv .3)
 
 enum-known-found : tie.Need-enum-known-found Inv-loop μ-loop
 enum-known-found c = search needs
@@ -173,10 +175,10 @@ loop-again c =
     let number : e .settle .result ≡ q .j + length (settled f (named (on f .0))) = e .settle .ensures .0 ∙ ap (λ x. q .j + length (settled f x)) name-is in
     let marks = e .settle .ensures .1 ∙ ap (λ x. over (q .marks) (2 * q .j) (marksOf (settled f x))) name-is in (
       omega (arith, go, q .inv .0),
-      omega (arith, number, settles-le (list k) (named (on f .0)) (s .place) (s .place + it f .size) (drop (q .j) (index k)), length-drop (q .j) (index k), q .inv .1),
-      e .settle .kept .1 .1 .1 .1 .1 .1 .0 ∙ q .inv .2,
+      e .settle .kept .1 .1 .1 .1 .1 .1 .0 ∙ q .inv .1,
       rw (add-one, name-is) (whole k _ (f .found .given .1)),
-      marked-on (s .byte) (s .n) (s .file) (list k) (index k) (on f .0) (q .j) (q .marks) (e .settle .result) (e .settle .last .1 .1 .1 .1 .1 .1 .0) number marks ∙ q .inv .4,
+      marked-on (s .byte) (s .n) (s .file) (list k) (index k) (s .place) (s .last) (q .j) (q .marks) (on f .0) (on f .1) _ name-is (e .settle .result) (e .settle .last .1 .1 .1 .1 .1 .1 .0) number marks
+          ∙ q .inv .3,
     )
 
 pub survey-spec : {M : Type 1} → statement M

@@ -1,13 +1,13 @@
--- `merge::runs::is_still` meets its contract: what is left decides as long as nothing has.
+-- `runs::is_still` meets its contract: what is left decides as long as nothing has.
 use mathlib.Core.Path.{_≡_, refl, sym, _∙_}
 use mathlib.Core.List.{List}
-use Prim.Native.Nat.{ℕ, _*_, _-_, _≤_, _<_}
-use lib.ListN.{length, drop}
-use Rattle.merge.specs.Runs.{isStill}
-use Rattle.merge.proofs.Still.{still-end, still-update, still-run, still-on}
+use Prim.Native.Nat.{ℕ, _+_, _*_, _-_, _≤_, _<_}
+use lib.ListN.{getD, length, drop}
+use Rattle.runs.specs.Runs.{isStill}
+use Rattle.runs.proofs.Still.{still-end, still-update, still-run, still-on}
 use borrow.Author.Needs.{needs}
-use Rattle.merge.proofs.runs.is_still.Statement.{statement}
-use Rattle.merge.proofs.runs.is_still.Tie as tie
+use Rattle.runs.proofs.is_still.Statement.{statement}
+use Rattle.runs.proofs.is_still.Tie as tie
 
 abbrev Inv-loop : tie.InvT-loop
 Inv-loop list index marks j₀ j = (j ≤ length index) × (isStill list (drop j index) (drop (2 * j) marks) ≡ isStill list index marks)
@@ -53,32 +53,28 @@ returns c =
     let l = turn k in
     sym (still-update (list l) (index l) (marks l) (l .loop .j) (inside k) (λ z. c .if1 .taken (k .kind-at .ensures ∙ z))) ∙ l .loop .inv .1
 
-mul-if2 : tie.Need-mul-if2 Inv-loop μ-loop
-mul-if2 c = search needs
+mul-mark-at : tie.Need-mul-mark-at Inv-loop μ-loop
+mul-mark-at c = search needs
 
-mul-if2-2 : tie.Need-mul-if2-2 Inv-loop μ-loop
-mul-if2-2 c = search needs
+mark-at-requires : tie.Need-mark-at-requires Inv-loop μ-loop
+mark-at-requires c κs = search needs
 
-shared-slice-read-if2 : tie.Need-shared-slice-read-if2 Inv-loop μ-loop
-shared-slice-read-if2 c = search needs
+mul-mark-at-2 : tie.Need-mul-mark-at-2 Inv-loop μ-loop
+mul-mark-at-2 c = search needs
 
-mul-if2-3 : tie.Need-mul-if2-3 Inv-loop μ-loop
-mul-if2-3 c = search needs
+add-mark-at : tie.Need-add-mark-at Inv-loop μ-loop
+add-mark-at c = search needs
 
-add-if2 : tie.Need-add-if2 Inv-loop μ-loop
-add-if2 c = search needs
-
-mul-if2-4 : tie.Need-mul-if2-4 Inv-loop μ-loop
-mul-if2-4 c = search needs
-
-shared-slice-read-if2-2 : tie.Need-shared-slice-read-if2-2 Inv-loop μ-loop
-shared-slice-read-if2-2 c = search needs
+mark-at-requires-2 : tie.Need-mark-at-requires-2 Inv-loop μ-loop
+mark-at-requires-2 c κs = search needs
 
 returns-2 : tie.Need-returns-2 Inv-loop μ-loop
 returns-2 c =
-    let k = c .before .before .before .before in
+    let m = c .before in
+    let k = m .before .before .before in
     let l = turn k in
-    sym (still-run (list l) (index l) (marks l) (l .loop .j) (inside k) (sym (k .kind-at .ensures) ∙ c .before .before .before .if1 .left) (c .if2 .taken)) ∙ l .loop .inv .1
+    let differ : getD (marks l) (2 * l .loop .j) 0 ≡ getD (marks l) (2 * l .loop .j + 1) 0 → ⊥ = λ z. c .if2 .taken (m .before .mark-at .ensures ∙ z ∙ sym (m .mark-at2 .ensures)) in
+    sym (still-run (list l) (index l) (marks l) (l .loop .j) (inside k) (sym (k .kind-at .ensures) ∙ m .before .before .if1 .left) differ) ∙ l .loop .inv .1
 
 add-j : tie.Need-add-j Inv-loop μ-loop
 add-j c = search needs
@@ -88,9 +84,11 @@ loop-less c = search needs
 
 loop-again : tie.Need-loop-again Inv-loop μ-loop
 loop-again c =
-    let k = c .before .before .before .before in
+    let m = c .before in
+    let k = m .before .before .before in
     let l = turn k in
-    (search needs, sym (still-on (list l) (index l) (marks l) (l .loop .j) (inside k) (sym (k .kind-at .ensures) ∙ c .before .before .before .if1 .left) (c .if2 .left)) ∙ l .loop .inv .1)
+    let same = sym (m .before .mark-at .ensures) ∙ c .if2 .left ∙ m .mark-at2 .ensures in
+    (search needs, sym (still-on (list l) (index l) (marks l) (l .loop .j) (inside k) (sym (k .kind-at .ensures) ∙ m .before .before .if1 .left) same) ∙ l .loop .inv .1)
 
 returns-3 : tie.Need-returns-3 Inv-loop μ-loop
 returns-3 c =
@@ -108,13 +106,11 @@ is-still-spec =
     shared-slice-read-kind-at
     kind-at-requires
     returns
-    mul-if2
-    mul-if2-2
-    shared-slice-read-if2
-    mul-if2-3
-    add-if2
-    mul-if2-4
-    shared-slice-read-if2-2
+    mul-mark-at
+    mark-at-requires
+    mul-mark-at-2
+    add-mark-at
+    mark-at-requires-2
     returns-2
     add-j
     loop-less

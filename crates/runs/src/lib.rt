@@ -1,21 +1,20 @@
 // The one pass over the old records: the check, and for each edit the run of old bytes that it replaces.
 ghost use mathlib.Core.Path.{_≡_};
 ghost use mathlib.Core.List.{_∷_, []};
-ghost use Prim.Native.Nat.{ℕ, _+_, _*_, _≤_};
+ghost use Prim.Native.Nat.{_+_, _*_};
 ghost use lib.ListN.{getD, length, drop};
 ghost use Rattle.class.specs.Class.{classesOf};
-ghost use Rattle.checks.specs.declared.Verdict.the-variants.{Clean};
 ghost use Rattle.checks.specs.Check.{judgeBody};
 ghost use Rattle.iter.specs.Items.{items};
 ghost use Rattle.put.specs.Put.{over};
-ghost use Rattle.merge.specs.Runs.{runsOf, settles, atEnd, marksOf, isStill};
+ghost use Rattle.runs.specs.Runs.{surveyed, settles, atEnd, marksOf, isStill};
 use checks::Turn;
 use checks::Verdict;
 use compare::order::Order;
 
-// The check of the records from a place on. Where they pass, marks begins with the starts and ends of the runs of the edits at the
-// index's places.
-pub(crate) fn survey(
+// The check of the records from a place on. The marks begin with the starts and ends of the runs of the edits at the index's places, as far as
+// there is room, and up to the first fault.
+pub fn survey(
     t: &[u8; 256],
     n: usize,
     file: &[u8],
@@ -24,9 +23,8 @@ pub(crate) fn survey(
     index: &[u32],
     marks: &mut [usize],
 ) -> Verdict
-    requires { ⌜ 2 * length (now index) ≤ length (now marks) ⌝ }
     ensures { λ r. ⌜ r ≡ judgeBody (classesOf (now (t .entry))) n (now (file .entry)) body ⌝ }
-    ensures { λ r. ⌜ ((count : ℕ) → r ≡ Clean count → now (marks .exit) ≡ over (now (marks .entry)) 0 (marksOf (runsOf n (now (list .entry)) body (items (classesOf (now (t .entry))) n (drop body (now (file .entry)))) (now (index .entry))))) ⌝ }
+    ensures { λ _. ⌜ now (marks .exit) ≡ over (now (marks .entry)) 0 (marksOf (surveyed n (now (list .entry)) body [] (items (classesOf (now (t .entry))) n (drop body (now (file .entry)))) (now (index .entry)))) ⌝ }
 {
     let mut place = body;
     let mut count = 0;
@@ -65,7 +63,6 @@ fn settle(
     next: usize,
     marks: &mut [usize],
 ) -> usize
-    requires { ⌜ (from ≤ length (now index)) × (2 * length (now index) ≤ length (now marks)) ⌝ }
     ensures { λ r. ⌜ r ≡ from + length (settles (now (list .entry)) (now (name .entry)) place next (drop from (now (index .entry)))) ⌝ }
     ensures { λ r. ⌜ now (marks .exit) ≡ over (now (marks .entry)) (2 * from) (marksOf (settles (now (list .entry)) (now (name .entry)) place next (drop from (now (index .entry))))) ⌝ }
 {
@@ -76,11 +73,11 @@ fn settle(
                 return j;
             }
             Order::Equal => {
-                mark(marks, j, place, next);
+                mark(marks, 2 * j, place, next);
                 return j + 1;
             }
             Order::Greater => {
-                mark(marks, j, place, place);
+                mark(marks, 2 * j, place, place);
                 j += 1;
             }
         }
@@ -90,28 +87,41 @@ fn settle(
 
 // The edits from j on belong behind all records.
 fn settle_rest(index: &[u32], from: usize, place: usize, marks: &mut [usize])
-    requires { ⌜ (from ≤ length (now index)) × (2 * length (now index) ≤ length (now marks)) ⌝ }
     ensures { λ _. ⌜ now (marks .exit) ≡ over (now (marks .entry)) (2 * from) (marksOf (atEnd place (drop from (now (index .entry))))) ⌝ }
 {
     let mut j = from;
     while j < index.len() {
-        mark(marks, j, place, place);
+        mark(marks, 2 * j, place, place);
         j += 1;
     }
 }
 
-// The run of the edit with number j.
-fn mark(marks: &mut [usize], j: usize, from: usize, to: usize)
-    requires { ⌜ 2 * j + 2 ≤ length (now marks) ⌝ }
-    ensures { λ _. ⌜ now (marks .exit) ≡ over (now (marks .entry)) (2 * j) (from ∷ to ∷ []) ⌝ }
+// The start and the end of a run put at a place of the marks, as far as there is room.
+fn mark(marks: &mut [usize], at: usize, from: usize, to: usize)
+    ensures { λ _. ⌜ now (marks .exit) ≡ over (now (marks .entry)) at (from ∷ to ∷ []) ⌝ }
 {
-    marks[2 * j] = from;
-    marks[2 * j + 1] = to;
+    if marks.len() <= at {
+        return;
+    }
+    marks[at] = from;
+    if marks.len() - at < 2 {
+        return;
+    }
+    marks[at + 1] = to;
+}
+
+// The mark at a place, or 0 behind them all.
+fn mark_at(marks: &[usize], at: usize) -> usize
+    ensures { λ r. ⌜ r ≡ getD (now (marks .entry)) at 0 ⌝ }
+{
+    if at < marks.len() {
+        return marks[at];
+    }
+    0
 }
 
 // Whether there is no update, and every run is empty.
-pub(crate) fn is_still(list: &[u8], index: &[u32], marks: &[usize]) -> bool
-    requires { ⌜ 2 * length (now index) ≤ length (now marks) ⌝ }
+pub fn is_still(list: &[u8], index: &[u32], marks: &[usize]) -> bool
     ensures { λ r. ⌜ r ≡ isStill (now (list .entry)) (now (index .entry)) (now (marks .entry)) ⌝ }
 {
     let mut j = 0;
@@ -119,7 +129,7 @@ pub(crate) fn is_still(list: &[u8], index: &[u32], marks: &[usize]) -> bool
         if kind_at(list, index[j]) != 0 {
             return false;
         }
-        if marks[2 * j] != marks[2 * j + 1] {
+        if mark_at(marks, 2 * j) != mark_at(marks, 2 * j + 1) {
             return false;
         }
         j += 1;
@@ -128,7 +138,7 @@ pub(crate) fn is_still(list: &[u8], index: &[u32], marks: &[usize]) -> bool
 }
 
 // The kind of the edit at a place.
-pub(crate) fn kind_at(list: &[u8], place: u32) -> u8
+pub fn kind_at(list: &[u8], place: u32) -> u8
     ensures { λ r. ⌜ r ≡ getD (now (list .entry)) place 0 ⌝ }
 {
     places::name::byte_at(list, place as usize)

@@ -10,7 +10,7 @@ use lib.Dec.{eqb}
 use lib.ListN.{getD, length, drop, drop-of-length-le}
 use lib.Seq.{drop-cons, drop-drop, getD-drop}
 use borrow.Author.Tests.{eq-eqb, ne-eqb}
-use Rattle.merge.specs.Runs.{isStill}
+use Rattle.runs.specs.Runs.{isStill}
 
 module _ (list index marks : List ℕ) (j : ℕ) where
   pub still-end : length index ≤ j → isStill list (drop j index) (drop (2 * j) marks) ≡ true

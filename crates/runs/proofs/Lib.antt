@@ -1,0 +1,4 @@
+pub mod Marks
+pub mod RunSteps
+pub mod RunTurns
+pub mod Still

@@ -1,0 +1,63 @@
+-- The runs of old bytes that the edits replace: each edit's run is empty where no record has its name.
+use mathlib.Core.Bool.{Bool, true, _&&_}
+use mathlib.Core.List.{List, [], _∷_, _++_}
+use Prim.Native.Nat.{ℕ, _+_}
+use lib.Dec.{eqb}
+use lib.ListN.{getD, length, drop}
+use Rattle.parse.specs.Choice.{if}
+use Rattle.compare.specs.Order.{orderOf, smaller, byOrder}
+use Rattle.decode.specs.declared.reference.Reading.{Reading}
+use Rattle.decode.specs.declared.reference.Reading.the-variants.{Good, Bad}
+use Rattle.iter.specs.Items.{Item, nameOf}
+use Rattle.places.specs.Name.{editName}
+
+pub record Run : Type 0 where
+  pub from : ℕ
+  pub to : ℕ
+
+abbrev pub run : ℕ → ℕ → Run
+run from to = record { from = from; to = to }
+
+-- the runs of those of the edits at ps that a record of a name settles, which reaches from a place to the next: edits of smaller
+-- names belong in front of it, one of its name replaces it, and those of greater names belong further behind
+abbrev pub settles : List ℕ → List ℕ → ℕ → ℕ → List ℕ → List Run
+settles list name place next [] = []
+settles list name place next (p ∷ ps) =
+    byOrder (orderOf name (editName list p)) [] (run place next ∷ []) (run place place ∷ settles list name place next ps)
+
+-- behind all records
+abbrev pub atEnd : ℕ → List ℕ → List Run
+atEnd place [] = []
+atEnd place (p ∷ ps) = run place place ∷ atEnd place ps
+
+-- the runs of the edits at ps among some items that begin at a place
+abbrev pub runsOf : ℕ → List ℕ → ℕ → List Item → List ℕ → List Run
+runsOf n list place [] ps = atEnd place ps
+runsOf n list place (i ∷ l) ps =
+    let here = settles list (nameOf n i) place (place + length (i .bytes)) ps in
+    here ++ runsOf n list (place + length (i .bytes)) l (drop (length here) ps)
+
+-- the same up to the first fault of the check: behind it no edit gets a run
+abbrev pub untilFault : Reading → List Run → List Run
+untilFault (Good r) runs = runs
+untilFault (Bad f) runs = []
+
+abbrev pub surveyed : ℕ → List ℕ → ℕ → List ℕ → List Item → List ℕ → List Run
+surveyed n list place last [] ps = atEnd place ps
+surveyed n list place last (i ∷ l) ps =
+    let here = settles list (nameOf n i) place (place + length (i .bytes)) ps in
+    untilFault (i .what)
+    (if (smaller last (nameOf n i))
+    (here ++ surveyed n list (place + length (i .bytes)) (nameOf n i) l (drop (length here) ps))
+    [])
+
+-- starts and ends one after another
+abbrev pub marksOf : List Run → List ℕ
+marksOf [] = []
+marksOf (r ∷ l) = r .from ∷ r .to ∷ marksOf l
+
+-- no update, and every run is empty
+abbrev pub isStill : List ℕ → List ℕ → List ℕ → Bool
+isStill list [] marks = true
+isStill list (p ∷ ps) marks =
+    eqb (getD list p 0) 0 && (eqb (getD marks 0 0) (getD marks 1 0) && isStill list ps (drop 2 marks))
