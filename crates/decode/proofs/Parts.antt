@@ -8,7 +8,7 @@ use Rattle.parse.specs.declared.part.Past.the-variants.{At, Unread}
 use Rattle.parse.specs.declared.line.Text.the-variants.{Ended, Unended}
 use Rattle.class.specs.Class.{Classes}
 use Rattle.parse.specs.Part.{byteAt}
-use Rattle.parse.specs.Id.{idAt}
+use Rattle.id.specs.Id.{idAt}
 use Rattle.parse.specs.Line.{newlineAt, textAt}
 use Rattle.name.specs.Name.{validName}
 use Rattle.decode.specs.declared.reference.Fault.the-variants.{Id, Space, LineEnd, Name, Peeled}

@@ -13,10 +13,11 @@ use Rattle.parse.specs.declared.line.Text.the-variants.{Ended}
 use Rattle.class.specs.Class.{Classes}
 use Rattle.parse.specs.Run.{span}
 use Rattle.parse.specs.Part.{byteAt}
-use Rattle.parse.specs.Id.{idAt}
+use Rattle.id.specs.Id.{idAt}
 use Rattle.parse.specs.Line.{eol, textLen, textAt}
 use Rattle.parse.proofs.Fronts.{eol-le}
-use Rattle.parse.proofs.Views.{IdView, id, no-id, id-view, ByteView, there, not-there, byte-view, NewlineView, newline, no-newline, newline-view, textEnd, TextView, text, no-text, text-view}
+use Rattle.id.proofs.Ids.{IdView, id, no-id, id-view}
+use Rattle.parse.proofs.Views.{ByteView, there, not-there, byte-view, NewlineView, newline, no-newline, newline-view, textEnd, TextView, text, no-text, text-view}
 use Rattle.name.specs.Name.{validName}
 use Rattle.decode.specs.declared.reference.Fault.{Fault}
 use Rattle.decode.specs.declared.reference.Fault.the-variants.{Id, Space, LineEnd, Name, Peeled}

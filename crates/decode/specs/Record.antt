@@ -5,7 +5,7 @@ use lib.ListN.{take, drop}
 use Rattle.parse.specs.Choice.{if}
 use Rattle.class.specs.Class.{Classes}
 use Rattle.parse.specs.Part.{then, byteAt}
-use Rattle.parse.specs.Id.{idAt}
+use Rattle.id.specs.Id.{idAt}
 use Rattle.parse.specs.Line.{newlineAt, textAt, ended}
 use Rattle.name.specs.Name.{validName}
 use Rattle.decode.specs.declared.reference.Fault.{Fault}

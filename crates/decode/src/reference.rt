@@ -35,7 +35,7 @@ pub enum Reading {
 pub fn reference(t: &[u8; 256], s: &[u8], n: usize) -> Reading
     ensures { λ r. ⌜ r ≡ recordOf (classesOf (now (t .entry))) n (now (s .entry)) ⌝ }
 {
-    let Past::At(id_end) = parse::id::hex_hash(t, s, 0, n) else {
+    let Past::At(id_end) = id::hex_hash(t, s, 0, n) else {
         return Reading::Bad(Fault::Id);
     };
     let Past::At(from) = parse::part::past_byte(s, id_end, b' ') else {
@@ -55,7 +55,7 @@ pub fn reference(t: &[u8; 256], s: &[u8], n: usize) -> Reading
             size: next,
         });
     };
-    let Past::At(object_end) = parse::id::hex_hash(t, s, object, n) else {
+    let Past::At(object_end) = id::hex_hash(t, s, object, n) else {
         return Reading::Bad(Fault::Peeled);
     };
     let Past::At(size) = parse::line::newline(s, object_end) else {

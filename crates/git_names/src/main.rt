@@ -1,4 +1,4 @@
-// Replays Git's answers on names of references: reads the file `names`, asks name::is_valid, and prints where they differ.
+// Replays Git's answers on names of references: reads the file `names`, asks packed_refs_name, and prints where they differ.
 //
 // A line of the file is a mark, a space and the name in lower-case hex. Two spaces, `#` and a remark may follow. The marks `+`
 // and `~` say that the name is valid here, `-` and `0` that it is not. A line that begins with `#` is a comment.
@@ -69,7 +69,7 @@ fn wrong(mut t: Tally, how: &[u8]) -> Tally {
 }
 
 fn want_valid(name: &[u8], is_lock_name: bool, mut t: Tally) -> Tally {
-    if !name::is_valid(name) {
+    if host::head::packed_refs_name(name) != 0 {
         return wrong(t, b": refused, and marked as valid\n");
     }
     if is_lock_name {
@@ -81,7 +81,7 @@ fn want_valid(name: &[u8], is_lock_name: bool, mut t: Tally) -> Tally {
 }
 
 fn want_invalid(name: &[u8], mut t: Tally) -> Tally {
-    if name::is_valid(name) {
+    if host::head::packed_refs_name(name) != 3 {
         return wrong(t, b": accepted, and marked as not valid\n");
     }
     t.refused = more(t.refused);

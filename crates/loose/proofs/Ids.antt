@@ -10,9 +10,9 @@ use Rattle.parse.specs.declared.part.Past.the-variants.{At, Unread}
 use Rattle.parse.specs.Choice.{if}
 use Rattle.class.specs.Class.{Classes}
 use Rattle.parse.specs.Run.{span}
-use Rattle.parse.specs.Id.{idAt}
+use Rattle.id.specs.Id.{idAt}
 use Rattle.parse.proofs.Runs.{span-end, span-stop, span-go}
-use Rattle.parse.proofs.Views.{IdView, id, no-id, id-view}
+use Rattle.id.proofs.Ids.{IdView, id, no-id, id-view}
 use Rattle.loose.specs.Loose.{fullId}
 
 -- a run of n bytes and more is those and the run behind them

@@ -113,7 +113,7 @@ fn ends_path(t: &[u8; 256], b: u8) -> bool
 fn full_id(t: &[u8; 256], n: usize, s: &[u8]) -> bool
     ensures { λ r. ⌜ r ≡ fullId (classesOf (now (t .entry))) n (now (s .entry)) ⌝ }
 {
-    let Past::At(end) = parse::id::hex_hash(t, s, 0, n) else {
+    let Past::At(end) = id::hex_hash(t, s, 0, n) else {
         return false;
     };
     if s.len() <= end {

@@ -1,5 +1,4 @@
 pub mod Fronts
-pub mod Ids
 pub mod Lines
 pub mod Runs
 pub mod Slices

@@ -1,32 +1,18 @@
 -- What each part's answer says of the bytes at a place: one case for a part that was read, one for a part that was not.
-use mathlib.Core.Path.{_≡_, refl, sym, ap, _∙_}
+use mathlib.Core.Path.{_≡_, refl}
 use mathlib.Core.Bool.{Bool, true, false}
 use mathlib.Core.List.{List}
 use Prim.Native.Nat.{ℕ, _+_, _≤_, _<_}
 use native.Mathlib.Omega.{arith}
-use lib.Dec.{leb, ltb, eqb}
+use lib.Dec.{ltb, eqb}
 use lib.ListN.{getD, length, drop, length-drop, List·getD-eq-default}
-use borrow.Author.Tests.{leb-true, leb-false, ltb-true, ltb-false, eqb-true, eqb-false}
+use borrow.Author.Tests.{ltb-true, ltb-false, eqb-true, eqb-false}
 use Rattle.parse.specs.declared.part.Past.the-variants.{At, Unread}
 use Rattle.parse.specs.declared.line.Text.the-variants.{Ended, Unended}
 use Rattle.class.specs.Class.{Classes}
-use Rattle.parse.specs.Run.{span}
 use Rattle.parse.specs.Part.{byteAt}
-use Rattle.parse.specs.Id.{idAt}
 use Rattle.parse.specs.Line.{eol, newlineAt, textLen, textAt}
 use Rattle.parse.proofs.Fronts.{eol-le}
-
-pub data IdView (byte : Classes) (n : ℕ) (s : List ℕ) (at : ℕ) : Type 0 where
-  id : n ≤ span (byte .hex) (drop at s) → idAt byte n s at ≡ At (at + n) → IdView byte n s at
-  no-id : span (byte .hex) (drop at s) < n → idAt byte n s at ≡ Unread → IdView byte n s at
-
-pub id-view : (byte : Classes) (n : ℕ) (s : List ℕ) (at : ℕ) → IdView byte n s at
-unfolding idAt
-id-view byte n s at = go (leb n (span (byte .hex) (drop at s))) refl
-  where
-    go : (t : Bool) → leb n (span (byte .hex) (drop at s)) ≡ t → IdView byte n s at
-    go true e = id (leb-true _ _ e) (rw e)
-    go false e = no-id (leb-false _ _ e) (rw e)
 
 -- of a byte that is not 0, so that it stands inside
 pub data ByteView (b : ℕ) (s : List ℕ) (at : ℕ) : Type 0 where

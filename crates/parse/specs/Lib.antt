@@ -1,5 +1,4 @@
 pub mod Choice
-pub mod Id
 pub mod Limit
 pub mod Line
 pub mod Part

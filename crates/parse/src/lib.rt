@@ -1,5 +1,4 @@
-// What every layer reads bytes with: hex ids, line ends, parts, kinds and limits.
-pub mod id;
+// What every layer reads bytes with: line ends, parts, kinds and limits.
 pub mod limit;
 pub mod line;
 pub mod part;

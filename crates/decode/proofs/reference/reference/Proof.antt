@@ -9,7 +9,7 @@ use Rattle.parse.specs.declared.part.Past.the-variants.{At, Unread}
 use Rattle.parse.specs.declared.line.Text.the-variants.{Ended}
 use Rattle.class.specs.Class.{Classes, classesOf}
 use Rattle.parse.specs.Part.{byteAt}
-use Rattle.parse.specs.Id.{idAt}
+use Rattle.id.specs.Id.{idAt}
 use Rattle.parse.specs.Line.{newlineAt, textAt}
 use Rattle.parse.proofs.Lines.{text-order}
 use Rattle.name.specs.Name.{validName}

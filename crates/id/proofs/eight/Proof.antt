@@ -1,4 +1,4 @@
--- `parse::id::eight` meets its contract: as long as all were digits, the bytes passed are.
+-- `id::eight` meets its contract: as long as all were digits, the bytes passed are.
 use mathlib.Core.Path.{_≡_, refl, sym, _∙_}
 use mathlib.Core.Bool.{Bool, true, false, _&&_, false≢true}
 use Prim.Native.Nat.{ℕ, _+_, _-_, _≤_, _<_}
@@ -7,8 +7,8 @@ use lib.ListN.{length, getD}
 use borrow.Author.Count.{below-none, below-more}
 use Rattle.class.specs.Class.{classesOf}
 use borrow.Author.Needs.{needs}
-use Rattle.parse.proofs.id.eight.Statement.{statement}
-use Rattle.parse.proofs.id.eight.Tie as tie
+use Rattle.id.proofs.eight.Statement.{statement}
+use Rattle.id.proofs.eight.Tie as tie
 
 both : (a b : Bool) → a && b ≡ true → (a ≡ true) × (b ≡ true)
 both true true e = (refl, refl)

@@ -4,8 +4,8 @@ ghost use mathlib.Core.Bool.{true};
 ghost use Prim.Native.Nat.{ℕ, _+_, _≤_, _<_};
 ghost use lib.ListN.{length, getD};
 ghost use Rattle.class.specs.Class.{classesOf};
-ghost use Rattle.parse.specs.Id.{idAt};
-use crate::part::Past;
+ghost use Rattle.id.specs.Id.{idAt};
+use parse::part::Past;
 
 // The place behind the n hex digits that stand at a place: eight a step, then one by one.
 pub fn hex_hash(t: &[u8; 256], s: &[u8], at: usize, n: usize) -> Past

@@ -1,13 +1,13 @@
--- `parse::id::hex_hash` meets its contract: eight digits that are there are passed over, the rest goes one by one.
+-- `id::hex_hash` meets its contract: eight digits that are there are passed over, the rest goes one by one.
 use mathlib.Core.Path.{_≡_, refl, sym, _∙_}
 use native.Mathlib.Omega.{arith}
 use borrow.Author.Tests.{not-false}
 use Rattle.class.specs.Class.{classesOf}
-use Rattle.parse.specs.Id.{idAt}
-use Rattle.parse.proofs.Ids.{id-skip}
+use Rattle.id.specs.Id.{idAt}
+use Rattle.id.proofs.Ids.{id-skip}
 use borrow.Author.Needs.{needs}
-use Rattle.parse.proofs.id.hex_hash.Statement.{statement}
-use Rattle.parse.proofs.id.hex_hash.Tie as tie
+use Rattle.id.proofs.hex_hash.Statement.{statement}
+use Rattle.id.proofs.hex_hash.Tie as tie
 
 abbrev Inv-loop : tie.InvT-loop
 Inv-loop t s at n i₀ left₀ i left = idAt (classesOf t) left s i ≡ idAt (classesOf t) n s at

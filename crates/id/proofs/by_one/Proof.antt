@@ -1,17 +1,17 @@
--- `parse::id::by_one` meets its contract: the digits passed count toward the run that began at the place.
+-- `id::by_one` meets its contract: the digits passed count toward the run that began at the place.
 use mathlib.Core.Path.{_≡_, sym, ap, _∙_}
 use Prim.Native.Nat.{_+_, _-_, _≤_}
 use native.Mathlib.Omega.{arith}
 use borrow.Author.Tests.{not-true, not-false}
 use lib.ListN.{length, drop, length-drop}
 use Rattle.parse.specs.declared.part.Past.the-variants.{At}
 use Rattle.class.specs.Class.{classesOf}
 use Rattle.parse.specs.Run.{span}
-use Rattle.parse.proofs.Ids.{id-read, id-unread}
+use Rattle.id.proofs.Ids.{id-read, id-unread}
 use Rattle.parse.proofs.Runs.{span-le, span-end, span-stop, span-go}
 use borrow.Author.Needs.{needs}
-use Rattle.parse.proofs.id.by_one.Statement.{statement}
-use Rattle.parse.proofs.id.by_one.Tie as tie
+use Rattle.id.proofs.by_one.Statement.{statement}
+use Rattle.id.proofs.by_one.Tie as tie
 
 abbrev Inv-loop : tie.InvT-loop
 Inv-loop t s at n end i₀ i = (at ≤ i) × (i ≤ end) × (end ≡ at + n) × (end ≤ length s) × (i + span (classesOf t .hex) (drop i s) ≡ at + span (classesOf t .hex) (drop at s))
