@@ -1,9 +1,9 @@
 #!/usr/bin/env python3
-"""answers.py FILE: writes a fixed sample of the oracle's answers, for crates/replay (vectors/README.md says how). ORACLE: the oracle's program."""
+"""answers.py DIR: writes DIR/data/questions and DIR/stdout for crates/replay (vectors/README.md says how). ORACLE: the oracle's program."""
 import collections, itertools, json, os, random, subprocess, sys
 
 sys.path.insert(0, os.path.join(os.path.dirname(os.path.abspath(__file__)), "..", "compare"))
-import inputs, model
+import git_names, inputs, model
 from answers import asked, edit_bytes, expected, outside
 
 # Operation, title, every short input, random ones, how many lines of each.
@@ -14,28 +14,20 @@ GROUPS = [
     ("prefix listing", inputs.short_sought("p"), inputs.sought("p"), 100, 150), ("merge", inputs.short_merges(), inputs.merges, 150, 300),
     ("loose", inputs.short_contents(), inputs.contents, 100, 150), ("ask", inputs.short_sought("a"), inputs.asks, 50, 150),
 ]
-SHORT = {ord(" "): "_", ord("\n"): "|"}
-PLAIN = set(range(33, 127)) - set(b"_|%()~")
 
 
-def spelled(b):
-    """Bytes in the file's form: themselves, `_` a space, `|` LF, `%xx` in hex, `(n:u)` n times u; `~` none."""
-    out = []
-    for c, same in itertools.groupby(b):
-        n = len(list(same))
-        one = chr(c) if c in PLAIN else SHORT.get(c, f"%{c:02x}")
-        many = f"({n}:{one})"
-        out.append(many if len(many) < n * len(one) else one * n)
-    return "".join(out) or "~"
-
-
-def line(q, answer):
+def asked_of(q, answer):
+    """A question and its answer: the line but for its number, the bytes that it lends, and what the program prints for it."""
     op, kind, *rest = q
-    fields = [str(x) if isinstance(x, int) else spelled(edit_bytes(x) if isinstance(x, list) else x) for x in rest]
+    lent = [edit_bytes(x) if isinstance(x, list) else x for x in rest if not isinstance(x, int)]
+    numbers = [x for x in rest if isinstance(x, int)]
+    fields = [kind] + ([len(x) for x in lent] + [0])[:2] + (numbers + [0, 0])[:2]
     if op == "m" and answer.startswith("0 "):
         zero, n, new, more = answer.split(" ", 3)
-        answer = f"0 {n} {spelled(bytes.fromhex(new))} {more}"
-    return f"{op} {kind} {' '.join(fields)} = {answer}"
+        said = f"= 0 {n} {more}\n".encode() + bytes.fromhex(new)
+    else:
+        said = f"= {answer}".encode()
+    return f"{op} {' '.join(map(str, fields))}".encode(), b"".join(lent), said
 
 
 def oracle(questions):
@@ -49,9 +41,9 @@ def chosen(rnd, questions, count, answer_of):
     """So many, and of each number of answer a fair share."""
     by = collections.defaultdict(list)
     for q, a in answer_of(questions):
-        text = line(q, a)
+        text = asked_of(q, a)
         # The program has room for so much.
-        if len(text) < 700 and all(x <= 60000 for x in q[2:] if isinstance(x, int) and q[0] == "m"):
+        if sum(map(len, text)) < 1000 and all(x <= 60000 for x in q[2:] if isinstance(x, int) and q[0] == "m"):
             by[a.split(" ")[0] if q[0] != "s" else "", min(a.count(" e "), 2), min(a.count(" r "), 2)].append(text)
     out = []
     for k in by:
@@ -79,28 +71,38 @@ def long_ones():
 
 
 def main():
-    out = [
-        "# What gix-ref 0.67.1 answers, by the oracle; made by vectors/answers.py. vectors/README.md says what a line means.",
-    ]
+    questions, answers, counts = [], [], collections.Counter()
+
+    def comment(text):
+        questions.append(f"# {text}\n".encode())
+        answers.append(questions[-1])
+
+    def group(title, asked, by):
+        comment(title)
+        for head, lent, said in dict.fromkeys(asked):
+            line = head + b" #%d\n" % (counts["all"] + 1)
+            questions.append(line + lent + b"\n")
+            answers.append(line + said + b"\n")
+            counts.update(["all", by, chr(head[0])])
+
+    comment("data/questions has the questions, stdout the answers. Made by vectors/answers.py; vectors/README.md says how to read them.")
+    for title, names in git_names.answered():
+        group(title, [asked_of(("n", 1, name), str(number)) for name, number in names], "Git")
     for what, short, make, n_short, n_random in GROUPS:
         rnd = random.Random(f"vectors {what}")
         every = list(short)
         some = rnd.sample(every, min(len(every), 4000))
-        out.append(f"# {what}")
-        out += chosen(rnd, some, n_short, theirs)
-        out += chosen(rnd, list(itertools.islice(make(inputs.Make(rnd)), 6000)), n_random, theirs)
-    out.append("# names and edits around the limits")
-    out += [line(q, a) for q, a in theirs(list(long_ones()))]
-    theirs_count = sum(not x.startswith("#") for x in out)
-    out.append("# added by the port, so by a model of document 01 (compare/model.py) and not by the Rust: edit lists as bytes, 7 to 12, the index")
+        asked = chosen(rnd, some, n_short, theirs)
+        group(f"{what}, gix-ref 0.67.1", asked + chosen(rnd, list(itertools.islice(make(inputs.Make(rnd)), 6000)), n_random, theirs), "the Rust")
+    group("names and edits around the limits, gix-ref 0.67.1", [asked_of(q, a) for q, a in theirs(list(long_ones()))], "the Rust")
     rnd = random.Random("vectors lists")
     of_model = lambda questions: [(q, model.merge(*q[1:])) for q in questions]
-    out += chosen(rnd, list(itertools.islice(inputs.lists(inputs.Make(rnd)), 6000)), 300, of_model)
-    out = list(dict.fromkeys(out))
-    with open(sys.argv[1], "w") as f:
-        f.write("\n".join(out) + "\n")
-    counts = collections.Counter(x[0] for x in out if x[0] != "#")
-    print(f"{sum(counts.values())} answers, of them by the oracle {theirs_count}: " + ", ".join(f"{k} {v}" for k, v in sorted(counts.items())))
+    asked = chosen(rnd, list(itertools.islice(inputs.lists(inputs.Make(rnd)), 6000)), 300, of_model)
+    group("what the port adds to the merge (edit lists as bytes, 7 to 12, the index), by a model of document 01", asked, "the model")
+    for name, texts in ("data/questions", questions), ("stdout", answers):
+        with open(os.path.join(sys.argv[1], name), "wb") as f:
+            f.writelines(texts)
+    print(", ".join(f"{k} {v}" for k, v in counts.items()))
 
 
 if __name__ == "__main__":

@@ -1,25 +1,10 @@
-"""Writes names of references with Git's own answers, `git check-ref-format NAME`: the vectors that crates/git_names replays.
-
-usage: python3 vectors/git_names.py FILE        (the repository's file: crates/git_names/data/names)
-
-vectors/README.md says what the marks mean. The same Git writes the same bytes each time.
-"""
+"""Names of references with Git's own answers, `git check-ref-format NAME`, for vectors/answers.py. The same Git gives the same answers each time."""
 import itertools
 import subprocess
-import sys
 
 # The library's rule looks for `.lock` only at the end of the whole name; Git and its page look at every component.
-# Set this to False once the library does so too: the names marked ~ are then marked -.
+# Set this to False once the library does so too: such names then stay in their groups, as refused.
 LOCK_ONLY_AT_THE_END = True
-
-# Stands between the name and its readable form; the program passes over both this and what follows.
-REMARK = "  # "
-
-HEAD = """\
-# Names of references with Git's answer to each, made by vectors/git_names.py with {git}.
-# A line: a mark, a space, the name's bytes in hex, and behind `#` the name in a readable form.
-# + accepted   - refused   ~ refused, and accepted by the library for now   0 holds a NUL: not asked, refused by Git's page
-"""
 
 # The cases of Git's t/t1402-check-ref-format.sh that ask with no option.
 T1402 = [
@@ -41,7 +26,7 @@ PLACES = [
     b"a/a%sa",
 ]
 
-# Lock names whose other components keep or break another rule: only `.lock` before the last component makes a ~.
+# Lock names whose other components keep or break another rule: only `.lock` before the last component makes a difference.
 LOCKS = [
     b"x.lock/y", b"x.lock/y.lock", b"x.lock/y.lock/z", b"w/x.lock/y.lock/z", b"x.lock//y", b"x.lock/.y", b"x.lock/y.", b"x.lock/y..z",
     b"x.lock/y@{z", b"x.lock/y z", b"x.lock/y/", b"/x.lock/y", b".x.lock/y", b"x y.lock/z", b"x.lock/lock", b"x.lock/.loc",
@@ -124,46 +109,30 @@ def accepts(name):
     return code == 0
 
 
-def mark(name):
-    if b"\0" in name:
-        return "0"
-    if accepts(name):
-        return "+"
-    # Refused for a lock name before the last component alone: with another letter there, Git accepts it.
-    if LOCK_ONLY_AT_THE_END and b".lock/" in name and accepts(name.replace(b".lock/", b".locx/")):
-        return "~"
-    return "-"
+def number(name):
+    """What the library shall say: Git's answer, and for a NUL its page's."""
+    return 0 if b"\0" not in name and accepts(name) else 3
 
 
-def readable(name):
-    """The name in ASCII with no blank; the middle of a long one is left out."""
-    if len(name) > 60:
-        return "%s..%s, %d bytes" % (readable(name[:10]), readable(name[-10:]), len(name))
-    text = "".join(chr(b) if 33 <= b <= 126 and b != 92 else "\\x%02x" % b for b in name)
-    return text or "(empty)"
+def is_inner_lock(name):
+    """Refused for a lock name before the last component alone: with another letter there, Git accepts it."""
+    return LOCK_ONLY_AT_THE_END and b".lock/" in name and b"\0" not in name and accepts(name.replace(b".lock/", b".locx/"))
 
 
-def lines():
+def answered():
+    """Each group's title and its names with their numbers; last those that the library accepts and Git does not."""
     git = subprocess.run(["git", "version"], capture_output=True, text=True, check=True).stdout.strip()
-    yield HEAD.format(git=git)
-    seen = set()
+    seen, otherwise = set(), []
     for title, names in groups():
-        yield "# -- %s\n" % title
+        group = []
         for name in names:
-            if name not in seen:
-                seen.add(name)
-                yield mark(name) + " " + name.hex() + REMARK + readable(name) + "\n"
-
-
-def main():
-    if len(sys.argv) != 2:
-        raise SystemExit("usage: python3 vectors/git_names.py FILE")
-    text = "".join(lines())  # all of it before the file is touched, so that a failure leaves the old one
-    with open(sys.argv[1], "w", encoding="ascii", newline="\n") as out:
-        out.write(text)
-    marks = [line[0] for line in text.splitlines() if line[0] != "#"]
-    print("%d names:" % len(marks), ", ".join("%s %d" % (m, marks.count(m)) for m in "+-~0"))
-
-
-if __name__ == "__main__":
-    main()
+            if name in seen:
+                continue
+            seen.add(name)
+            if is_inner_lock(name):
+                otherwise.append((name, 0))
+            else:
+                group.append((name, number(name)))
+        yield f"names, {git}: {title}", group
+    if otherwise:
+        yield f"names that {git} refuses, only because a component before the last ends in .lock: accepted for now", otherwise

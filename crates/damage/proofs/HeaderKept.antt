@@ -17,7 +17,7 @@ use Rattle.header.specs.declared.Header.{Header}
 use Rattle.header.specs.declared.Opened.the-variants as opened
 use Rattle.header.specs.Header.{mark, tokens, allNoted, plainHeader, headerOf}
 use Rattle.header.proofs.Headers.{no-hash, header-read, all-noted-body, HeaderView, none, unreadable, some, header-view}
-use Rattle.iter.specs.Start.{firstItem, startOf}
+use Rattle.start.specs.Start.{firstItem, startOf}
 use Rattle.damage.proofs.TextKept.{ends, text-local}
 
 begins-local : (w u r r′ : List ℕ) → length w ≤ length u → begins w (u ++ r) ≡ true → begins w (u ++ r′) ≡ true

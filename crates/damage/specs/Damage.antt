@@ -15,7 +15,7 @@ use Rattle.header.specs.Header.{headerOf}
 use Rattle.checks.specs.declared.Verdict.the-variants.{Clean}
 use Rattle.iter.specs.Items.{Item, items}
 use Rattle.checks.specs.Check.{checkOf}
-use Rattle.iter.specs.Start.{startOf}
+use Rattle.start.specs.Start.{startOf}
 use Rattle.iter.specs.Stands.{Stands, Each}
 
 -- of some items, read from place 0: those that end before a place, with at least one byte between

@@ -11,7 +11,7 @@ use Rattle.compare.specs.declared.order.Order.the-variants.{Less, Equal, Greate
 use Rattle.class.specs.Class.{paper}
 use Rattle.compare.specs.Order.{orderOf}
 use Rattle.compare.proofs.Orders.{order-equal}
-use Rattle.decode.specs.Start.{recordStart}
+use Rattle.probe.specs.Start.{recordStart}
 use Rattle.iter.specs.Items.{Item, nameOf}
 use Rattle.iter.specs.Stands.{Stands}
 use Rattle.search.specs.declared.Found.{Found}

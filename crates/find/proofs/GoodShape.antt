@@ -15,11 +15,11 @@ use Rattle.name.proofs.Laws.{valid-some}
 use Rattle.decode.specs.declared.reference.Record.{Record}
 use Rattle.decode.specs.declared.reference.Reading.{Reading}
 use Rattle.decode.specs.declared.reference.Reading.the-variants.{Good, Bad}
-use Rattle.decode.specs.declared.shape.Shape.the-variants.{Name}
+use Rattle.probe.specs.declared.shape.Shape.the-variants.{Name}
 use Rattle.decode.specs.Record.{recordOf}
-use Rattle.decode.specs.Shape.{shapeOf}
+use Rattle.probe.specs.Shape.{shapeOf}
 use Rattle.decode.proofs.Records.{nameLen, afterName, Head, View, is-bad, plain, peeled, view}
-use Rattle.decode.proofs.Shapes.{shapeLen, ShapeView, named, shapeless, shape-view}
+use Rattle.probe.proofs.Shapes.{shapeLen, ShapeView, named, shapeless, shape-view}
 use Rattle.iter.specs.Items.{itemOf, nameOf}
 use Rattle.checks.specs.Passes.{isGood}
 use Rattle.iter.proofs.Turns.{item-name}

@@ -13,11 +13,11 @@ use Rattle.class.specs.Class.{paper, isHex}
 use Rattle.compare.specs.Order.{orderOf}
 use Rattle.decode.specs.Record.{recordOf}
 use Rattle.header.proofs.Headers.{no-hash}
-use Rattle.iter.specs.declared.start.Start.the-variants as start
+use Rattle.start.specs.declared.Start.the-variants as start
 use Rattle.iter.specs.Items.{Item, items, bytesOf, nameOf}
 use Rattle.checks.specs.Passes.{isGood, allGood, Passes}
 use Rattle.iter.specs.Stands.{Stands}
-use Rattle.iter.specs.Start.{firstItem, startOf}
+use Rattle.start.specs.Start.{firstItem, startOf}
 use Rattle.iter.proofs.Each.{each}
 use Rattle.iter.proofs.Items.{items-step, tile}
 use Rattle.find.specs.declared.listing.Listing.the-variants.{From}

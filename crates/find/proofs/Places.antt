@@ -6,7 +6,7 @@ use Prim.Native.Nat.{ℕ, _≤_}
 use native.Mathlib.Omega.{arith}
 use lib.ListN.{length}
 use Rattle.class.specs.Class.{Classes}
-use Rattle.decode.proofs.Starts.{start-inside}
+use Rattle.probe.proofs.Starts.{start-inside}
 use Rattle.search.specs.declared.Found.{Found}
 use Rattle.search.specs.declared.Found.the-variants.{Hit, Miss}
 use Rattle.search.specs.Search.{halve, orderAt, failureAt, placed, searchOf}

@@ -6,9 +6,9 @@ use lib.ListN.{length, drop}
 use Rattle.parse.specs.Choice.{if}
 use Rattle.class.specs.Class.{Classes, paper}
 use Rattle.parse.specs.Limit.{admission, admit}
-use Rattle.iter.specs.declared.start.Start.{Start}
-use Rattle.iter.specs.declared.start.Start.the-variants as start
-use Rattle.iter.specs.Start.{startOf}
+use Rattle.start.specs.declared.Start.{Start}
+use Rattle.start.specs.declared.Start.the-variants as start
+use Rattle.start.specs.Start.{startOf}
 use Rattle.search.specs.declared.Found.{Found}
 use Rattle.search.specs.declared.Found.the-variants.{Hit, Miss}
 use Rattle.find.specs.declared.listing.Listing.{Listing}

@@ -4,9 +4,9 @@ ghost use Prim.Native.Nat.{_≤_};
 ghost use lib.ListN.{length};
 ghost use Rattle.class.specs.Class.{classesOf};
 ghost use Rattle.find.specs.Listing.{listingOf, listingFrom, listingAnswer};
-use iter::start::Start;
 use parse::limit::Admission;
 use search::Found;
+use start::Start;
 
 pub enum Listing {
     // The place that the first step is taken from, and its item number.
@@ -49,7 +49,7 @@ fn list_from(t: &[u8; 256], body: &[u8], place: usize) -> Listing
     requires { ⌜ place ≤ length (now body) ⌝ }
     ensures { λ r. ⌜ r ≡ listingFrom (classesOf (now (t .entry))) (now (body .entry)) place ⌝ }
 {
-    match iter::start::begin_by(t, parse::part::between(body, place, body.len())) {
+    match start::begin_by(t, parse::part::between(body, place, body.len())) {
         Start::At {
             place: behind,
             item,

@@ -1,6 +1,1 @@
-pub mod Content
-pub mod Head
-pub mod Seek
-pub mod Told
-pub mod Walk
 pub mod Write

@@ -44,7 +44,7 @@ fn told(merged: Merged) -> MergeReply
         Merged::ShortIndex => gives(10, 0, 0, 0),
         Merged::Twins(place) => gives(11, place as usize, 0, 0),
         Merged::BadHeader(text) => gives(2, 0, 0, text),
-        Merged::BadRecord { place, fault } => gives(crate::told::fault_number(fault), place, 0, 0),
+        Merged::BadRecord { place, fault } => gives(reply::told::fault_number(fault), place, 0, 0),
         Merged::Unsorted(place) => gives(6, place, 0, 0),
         Merged::NothingToDo => gives(13, 0, 0, 0),
         Merged::NoRecord => gives(14, 0, 0, 0),

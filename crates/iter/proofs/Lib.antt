@@ -1,4 +1,3 @@
-pub mod Begins
 pub mod Covers
 pub mod Each
 pub mod ItemRead

@@ -1,5 +1,4 @@
 pub mod Handed
 pub mod Items
 pub mod Stands
-pub mod Start
 pub mod Step

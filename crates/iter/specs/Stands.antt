@@ -9,7 +9,7 @@ use Rattle.decode.specs.declared.reference.Fault.{Fault}
 use Rattle.decode.specs.declared.reference.Record.{Record}
 use Rattle.decode.specs.declared.reference.Reading.the-variants as reading
 use Rattle.decode.specs.declared.reference.Reading.the-variants.{Bad}
-use Rattle.decode.specs.Start.{lineStart}
+use Rattle.probe.specs.Start.{lineStart}
 use Rattle.iter.specs.declared.step.Step.{Step}
 use Rattle.iter.specs.declared.step.Step.the-variants.{End, Good, Error}
 use Rattle.iter.specs.Items.{Item, itemOf, items, nameOf, bytesOf}

@@ -19,8 +19,8 @@ use Rattle.change.specs.declared.Reading.the-variants.{Good, Malformed, BadName
 use Rattle.change.specs.declared.Length.the-variants as long
 use Rattle.change.specs.Change.{lengthAt, idBytes, changeOf, behindName}
 use Rattle.edit.specs.List.{Listed, all, malformed, badName, tooMany, onto, listedBy, editsFrom, editsOf}
-use Rattle.put.specs.Text.{hexText}
-use Rattle.put.proofs.Laws.{length-hex, hex-is-hex}
+use Rattle.text.specs.Text.{hexText}
+use Rattle.text.proofs.Laws.{length-hex, hex-is-hex}
 use Rattle.merge.specs.Entry.{newOf, editAt}
 use Rattle.change.proofs.Parts.{length-there, name-there, behind-there, Whole, good-whole}
 use Rattle.merge.proofs.Entries.{Digits, AllOf}

@@ -17,7 +17,7 @@ use Rattle.sort.specs.Sorted.{sorted}
 use Rattle.sort.specs.Twin.{firstTwin}
 use Rattle.change.specs.Change.{lengthAt, changeOf, namedChange, behindName}
 use Rattle.edit.specs.List.{editsFrom, editsOf, twinsOf, preparedOf, indexAfter}
-use Rattle.put.specs.Text.{hexDigit}
+use Rattle.text.specs.Text.{hexDigit}
 use Rattle.merge.specs.Merge.{newFile, finished, oldEntries, judged, editsInOrder, mergeOf, mergeAnswer, outputAfter, indexAnswer}
 use Rattle.merge.specs.Examples.{allComputed, lengths, cases, numbered, longInputs}
 

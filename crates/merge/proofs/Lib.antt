@@ -1,4 +1,3 @@
-pub mod Admitted
 pub mod Answers
 pub mod CheckedLookup
 pub mod EditsRise

@@ -17,8 +17,9 @@ use Rattle.iter.proofs.Items.{tile}
 use Rattle.checks.proofs.Passes.{judged}
 use Rattle.places.specs.Name.{editName}
 use Rattle.put.specs.Put.{over}
-use Rattle.put.specs.Text.{withoutCR}
-use Rattle.put.proofs.Laws.{over-fits, without-append}
+use Rattle.text.specs.Text.{withoutCR}
+use Rattle.put.proofs.Laws.{over-fits}
+use Rattle.text.proofs.Laws.{without-append}
 use Rattle.merge.specs.Entry.{Entry, Edit, linesOf, linesOfAll, entryOf, entriesOf, editAt, editsAt}
 use Rattle.merge.specs.Merge.{overridden, headerLine, newFile}
 use Rattle.runs.specs.Runs.{Run, run, runsOf, marksOf}

@@ -25,8 +25,8 @@ use Rattle.iter.specs.Items.{Item, sizeOf, itemOf, items, nameOf}
 use Rattle.checks.specs.Passes.{isGood, allGood}
 use Rattle.iter.proofs.Items.{size-good}
 use Rattle.iter.proofs.Turns.{item-name}
-use Rattle.put.specs.Text.{notCR, withoutCR}
-use Rattle.put.proofs.Laws.{without-append, without-none}
+use Rattle.text.specs.Text.{notCR, withoutCR}
+use Rattle.text.proofs.Laws.{without-append, without-none}
 use Rattle.merge.specs.Entry.{recordLine, objectLine, linesOf, objectIn, entryOf}
 use Rattle.merge.proofs.GoodItems.{Each, each-good}
 use Rattle.merge.proofs.OldSound.{front-digits}

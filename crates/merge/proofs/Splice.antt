@@ -13,8 +13,9 @@ use Rattle.parse.specs.Choice.{if}
 use Rattle.places.specs.Name.{editName}
 use Rattle.change.specs.Change.{behindName}
 use Rattle.put.specs.Put.{over}
-use Rattle.put.specs.Text.{hexText, withoutCR}
-use Rattle.put.proofs.Laws.{over-twice, length-hex, length-without}
+use Rattle.text.specs.Text.{hexText, withoutCR}
+use Rattle.put.proofs.Laws.{over-twice}
+use Rattle.text.proofs.Laws.{length-hex, length-without}
 use Rattle.merge.specs.Entry.{recordLine, objectLine, linesOfAll, newOf, editAt}
 use Rattle.merge.specs.Splice.{spliced}
 

@@ -8,7 +8,7 @@ use Rattle.decode.specs.declared.reference.Reading.the-variants.{Good, Bad}
 use Rattle.iter.specs.Items.{Item, nameOf}
 use Rattle.places.specs.Name.{editName}
 use Rattle.change.specs.Change.{behindName}
-use Rattle.put.specs.Text.{hexText}
+use Rattle.text.specs.Text.{hexText}
 
 -- a record: its name, its id, and its peeled id if it has one, both in digits
 pub record Entry : Type 0 where

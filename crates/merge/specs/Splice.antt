@@ -10,7 +10,7 @@ use Rattle.compare.specs.declared.order.Order.the-variants.{Less}
 use Rattle.parse.specs.Choice.{if}
 use Rattle.compare.specs.Order.{orderOf}
 use Rattle.places.specs.Name.{editName}
-use Rattle.put.specs.Text.{withoutCR}
+use Rattle.text.specs.Text.{withoutCR}
 use Rattle.merge.specs.declared.Merged.{Merged}
 use Rattle.merge.specs.declared.Merged.the-variants.{Done, NothingToDo, NoRecord, ShortOutput}
 use Rattle.merge.specs.Entry.{linesOfAll, editAt}

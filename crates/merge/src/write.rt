@@ -3,7 +3,7 @@ ghost use mathlib.Core.Path.{_≡_};
 ghost use Prim.Native.Nat.{_+_, _*_, _≤_};
 ghost use lib.ListN.{length, getD};
 ghost use Rattle.put.specs.Put.{over};
-ghost use Rattle.put.specs.Text.{hexText};
+ghost use Rattle.text.specs.Text.{hexText};
 ghost use Rattle.merge.specs.Entry.{linesOfAll, editAt, recordLine, objectLine};
 ghost use Rattle.merge.specs.Splice.{splicedFile};
 

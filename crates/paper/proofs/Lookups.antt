@@ -7,8 +7,8 @@ use Rattle.parse.specs.Line.{eol, newlineAt, textAt}
 use Rattle.name.specs.Name.{noComponentBeginsWithDot, noLockAtTheEnd, hasSlash, noDotDot, noForbiddenByte, slashesApart, noDotAtTheEnd, noAtBrace, notTheLoneAt, validName}
 use Rattle.header.specs.Header.{headerOf}
 use Rattle.decode.specs.Record.{recordOf}
-use Rattle.decode.specs.Shape.{shapeOf}
-use Rattle.decode.specs.Start.{recordStart}
+use Rattle.probe.specs.Shape.{shapeOf}
+use Rattle.probe.specs.Start.{recordStart}
 use Rattle.iter.specs.Items.{sizeOf, itemsBehind, items}
 use Rattle.checks.specs.Check.{judgeBody}
 use Rattle.search.specs.Search.{probedOf, halve, searchOf}

@@ -1,3 +1,4 @@
+pub mod Admitted
 pub mod Fronts
 pub mod Lines
 pub mod Runs

@@ -1,22 +1,20 @@
 -- What a turn of each loop does, and what is left at its end.
 use mathlib.Core.Path.{_≡_, refl, sym, ap, _∙_}
-use mathlib.Core.Bool.{Bool, true, false, not, _||_, false≢true}
+use mathlib.Core.Bool.{Bool, true, false}
 use mathlib.Core.List.{List, [], _∷_, _++_}
 use Prim.Native.Nat.{ℕ, suc, _+_, _-_, _/_, _%_, _≤_, _<_, min}
-use native.Mathlib.Nat.{zero-add}
 use native.Mathlib.Numerals.{add-one}
 use native.Mathlib.Omega.{arith}
 use lib.Dec.{leb}
 use lib.ListN.{length, getD, take, drop, set, length-append, length-drop, drop-of-length-le}
 use lib.Seq.{drop-cons, drop-drop, length-take-le}
 use borrow.Author.Tests.{leb-true, leb-false}
-use Rattle.class.specs.Class.{valuesFrom}
 use Rattle.parse.specs.Run.{span}
-use Rattle.class.proofs.Classes.{value-at}
 use Rattle.parse.proofs.Runs.{span-le}
 use Rattle.put.specs.Put.{over}
-use Rattle.put.specs.Text.{hexDigit, hexText, notCR, withoutCR}
-use Rattle.put.proofs.Laws.{over-nil, over-beyond, over-byte, over-twice, without-piece}
+use Rattle.text.specs.Text.{hexDigit, hexText, notCR, withoutCR}
+use Rattle.text.proofs.Laws.{without-piece}
+use Rattle.put.proofs.Laws.{over-nil, over-beyond, over-byte, over-twice}
 
 -- ---- bytes
 
@@ -38,10 +36,6 @@ module _ (d s : List ℕ) (at i : ℕ) where
 
 -- ---- hex
 
--- the entries of the digits
-pub digit-at : (k : ℕ) → k < 16 → getD (valuesFrom hexDigit 0 16) k 0 ≡ hexDigit k
-digit-at k h = value-at hexDigit 0 16 k h ∙ ap hexDigit (zero-add k)
-
 module _ (d d₁ d₂ s : List ℕ) (o i a b : ℕ) where
   pub hex-turn : i < length s → a ≡ hexDigit (getD s i 0 / 16) → b ≡ hexDigit (getD s i 0 % 16)
       → d₁ ≡ over d o (a ∷ [])
@@ -56,13 +50,6 @@ module _ (d d₁ d₂ s : List ℕ) (o i a b : ℕ) where
 
 pub hex-end : (d s : List ℕ) (o i : ℕ) → length s ≤ i → over d o (hexText (drop i s)) ≡ d
 hex-end d s o i h = ap (λ l. over d o (hexText l)) (drop-of-length-le s h) ∙ over-nil d o
-
--- ---- the next CR
-
-pub neither : (a b : Bool) → a || b ≡ false → (a ≡ false) × (not b ≡ true)
-neither true b e = absurd (false≢true (sym e))
-neither false true e = absurd (false≢true (sym e))
-neither false false e = (refl, refl)
 
 -- ---- lf: a piece up to the next CR or the end
 

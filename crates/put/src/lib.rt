@@ -4,10 +4,7 @@ ghost use mathlib.Core.List.{_∷_, []};
 ghost use Prim.Native.Nat.{_+_, _-_, min};
 ghost use lib.ListN.{length};
 ghost use Rattle.put.specs.Put.{over};
-ghost use Rattle.put.specs.Text.{hexText, withoutCR};
-
-mod cr;
-mod digit;
+ghost use Rattle.text.specs.Text.{hexText, withoutCR};
 
 pub fn byte(out: &mut [u8], at: usize, b: u8)
     ensures { λ _. ⌜ now (out .exit) ≡ over (now (out .entry)) at (b ∷ []) ⌝ }
@@ -53,8 +50,8 @@ pub fn hex(out: &mut [u8], at: usize, raw: &[u8])
             return;
         }
         let b = raw[i];
-        byte(out, o, digit::high(b));
-        byte(out, o + 1, digit::low(b));
+        byte(out, o, text::digit::high(b));
+        byte(out, o + 1, text::digit::low(b));
         i += 1;
         o += 2;
     }
@@ -67,7 +64,7 @@ pub fn lf(out: &mut [u8], at: usize, src: &[u8]) -> usize
     let mut from = 0;
     let mut len = 0;
     loop {
-        let end = cr::next(src, from);
+        let end = text::cr::next(src, from);
         behind(out, at, len, &src[from..end]);
         len += end - from;
         if src.len() <= end {

@@ -1,62 +1,68 @@
-// A question to the library, and whether its answer is the one that the line goes on with.
-use crate::text;
-use crate::text::Cursor;
+// A question to the library that lends bytes alone, and its answer. A field that the paper does not give beside a number is not printed.
+use crate::question::Question;
+use crate::tell;
 
-pub(crate) fn header(line: &[u8], c: Cursor, file: &[u8]) -> Cursor {
-    let r = host::head::packed_refs_header(file);
-    let c = text::want_number(line, c, r.number);
+pub(crate) fn ask(q: Question, a: &[u8], b: &[u8]) {
+    let kind = q.kind;
+    let letter = q.letter;
+    match letter {
+        b'h' => header(a),
+        b'n' => name(a),
+        b'i' => iteration(kind, a),
+        b'c' => check(kind, a),
+        b's' => record_start(a, q.first),
+        b'f' => lookup(kind, a, b),
+        b'p' => prefix(kind, a, b),
+        b'a' => trusted(kind, a, b),
+        b'l' => loose(kind, a),
+        _ => tell::text(b" not a question"),
+    }
+}
+
+fn header(file: &[u8]) {
+    let r = host::read::packed_refs_header(file);
+    tell::number(r.number);
     if r.number == 2 {
-        return text::want_place(line, c, r.text_len);
+        tell::place(r.text_len);
     }
-    if r.number != 0 {
-        return c;
+    if r.number == 0 {
+        tell::number(r.peeled);
+        tell::number(r.sorted);
+        tell::place(r.place);
     }
-    let c = text::want_number(line, c, r.peeled);
-    let c = text::want_number(line, c, r.sorted);
-    text::want_place(line, c, r.place)
 }
 
-pub(crate) fn name(line: &[u8], c: Cursor, name: &[u8]) -> Cursor {
-    text::want_number(line, c, host::head::packed_refs_name(name))
+fn name(name: &[u8]) {
+    tell::number(host::read::packed_refs_name(name));
 }
 
-pub(crate) fn iteration(line: &[u8], c: Cursor, kind: u32, file: &[u8]) -> Cursor {
-    let r = host::walk::packed_refs_start(kind, file);
-    let c = text::want_number(line, c, r.number);
+fn iteration(kind: u32, file: &[u8]) {
+    let r = host::read::packed_refs_start(kind, file);
+    tell::number(r.number);
     if r.number == 2 {
-        return text::want_place(line, c, r.text_len);
+        tell::place(r.text_len);
     }
-    if r.number != 0 {
-        return c;
+    if r.number == 0 {
+        items(kind, file, &file[0..0], r.place, r.item);
     }
-    items(line, c, kind, file, &file[0..0], r.place, r.item)
 }
 
-pub(crate) fn prefix(line: &[u8], c: Cursor, kind: u32, body: &[u8], prefix: &[u8]) -> Cursor {
-    let r = host::seek::packed_refs_prefix(kind, body, prefix);
-    let c = text::want_number(line, c, r.number);
+fn prefix(kind: u32, body: &[u8], prefix: &[u8]) {
+    let r = host::read::packed_refs_prefix(kind, body, prefix);
+    tell::number(r.number);
     if r.number == 2 {
-        let c = text::want_place(line, c, r.text_at);
-        return text::want_place(line, c, r.text_len);
+        tell::place(r.text_at);
+        tell::place(r.text_len);
     }
-    if r.number != 0 {
-        return c;
+    if r.number == 0 {
+        items(kind, body, prefix, r.place, r.item);
     }
-    items(line, c, kind, body, prefix, r.place, r.item)
 }
 
-// Where the iteration begins, its items, and its end. An empty prefix is none, and is asked by the plain step.
-fn items(
-    line: &[u8],
-    c: Cursor,
-    kind: u32,
-    bytes: &[u8],
-    prefix: &[u8],
-    from: usize,
-    first: u64,
-) -> Cursor {
-    let c = text::want_place(line, c, from);
-    let mut c = text::want(line, c, first);
+// Where the iteration begins, its items, and its end.
+fn items(kind: u32, bytes: &[u8], prefix: &[u8], from: usize, first: u64) {
+    tell::place(from);
+    tell::count(first);
     let mut place = from;
     let mut number = first;
     while place < bytes.len() {
@@ -64,113 +70,107 @@ fn items(
         if r.what == 0 {
             break;
         }
-        c = item(line, c, r);
+        item(r);
+        // A step that stood still would be printed again and again.
         if r.next <= place {
-            return text::lost();
+            break;
         }
         place = r.next;
         number = r.item;
     }
-    let r = step(kind, bytes, prefix, place, number);
-    if r.what != 0 {
-        return text::lost();
-    }
-    let c = text::want_mark(line, c, b'.');
-    let c = text::want_place(line, c, r.next);
-    text::want(line, c, r.item)
+    item(step(kind, bytes, prefix, place, number));
 }
 
+// An empty prefix is none, and is asked by the plain step.
 fn step(
     kind: u32,
     bytes: &[u8],
     prefix: &[u8],
     place: usize,
     number: u64,
-) -> host::walk::StepReply {
+) -> reply::walk::StepReply {
     if prefix.len() == 0 {
-        return host::walk::packed_refs_step(kind, bytes, place, number);
+        return host::read::packed_refs_step(kind, bytes, place, number);
     }
-    host::walk::packed_refs_step_prefix(kind, bytes, prefix, place, number)
+    host::read::packed_refs_step_prefix(kind, bytes, prefix, place, number)
 }
 
-fn item(line: &[u8], c: Cursor, r: host::walk::StepReply) -> Cursor {
-    if r.what == 1 {
-        let c = text::want_mark(line, c, b'r');
-        let c = text::want_place(line, c, r.start);
-        let c = text::want_place(line, c, r.name_at);
-        let c = text::want_place(line, c, r.name_len);
-        let c = text::want_place(line, c, r.peeled_at);
-        return text::want_place(line, c, r.next);
+fn item(r: reply::walk::StepReply) {
+    let what = r.what;
+    match what {
+        0 => {
+            tell::text(b" .");
+            tell::place(r.next);
+            tell::count(r.item);
+        },
+        1 => {
+            tell::text(b" r");
+            record(r.start, r.name_at, r.name_len, r.peeled_at);
+            tell::place(r.next);
+        },
+        _ => {
+            tell::text(b" e");
+            tell::place(r.start);
+            tell::count(r.error);
+            tell::place(r.text_len);
+            tell::place(r.next);
+        },
     }
-    let c = text::want_mark(line, c, b'e');
-    let c = text::want_place(line, c, r.start);
-    let c = text::want(line, c, r.error);
-    let c = text::want_place(line, c, r.text_len);
-    text::want_place(line, c, r.next)
 }
 
-pub(crate) fn check(line: &[u8], c: Cursor, kind: u32, file: &[u8]) -> Cursor {
-    let r = host::walk::packed_refs_check(kind, file);
-    let c = text::want_number(line, c, r.number);
+fn record(place: usize, name_at: usize, name_len: usize, peeled_at: usize) {
+    tell::place(place);
+    tell::place(name_at);
+    tell::place(name_len);
+    tell::place(peeled_at);
+}
+
+fn check(kind: u32, file: &[u8]) {
+    let r = host::read::packed_refs_check(kind, file);
     let n = r.number;
+    tell::number(n);
     match n {
-        0 => text::want_place(line, c, r.count),
-        2 => text::want_place(line, c, r.text_len),
-        4 | 6 => text::want_place(line, c, r.place),
-        _ => c,
+        0 => tell::place(r.count),
+        2 => tell::place(r.text_len),
+        4 | 6 => tell::place(r.place),
+        _ => {},
     }
 }
 
 // Here the answer is the place alone.
-pub(crate) fn record_start(line: &[u8], c: Cursor, bytes: &[u8], place: usize) -> Cursor {
-    text::want_place(line, c, host::seek::packed_refs_record_start(bytes, place))
+fn record_start(bytes: &[u8], place: usize) {
+    tell::place(host::read::packed_refs_record_start(bytes, place));
 }
 
-pub(crate) fn lookup(line: &[u8], c: Cursor, kind: u32, body: &[u8], name: &[u8]) -> Cursor {
-    let r = host::seek::packed_refs_lookup(kind, body, name);
-    let c = text::want_number(line, c, r.number);
-    if r.number == 0 {
-        return record(line, c, r.place, r.name_at, r.name_len, r.peeled_at);
-    }
-    if r.number == 4 {
-        return text::want_place(line, c, r.place);
-    }
-    c
-}
-
-fn record(
-    line: &[u8],
-    c: Cursor,
-    place: usize,
-    name_at: usize,
-    name_len: usize,
-    peeled_at: usize,
-) -> Cursor {
-    let c = text::want_place(line, c, place);
-    let c = text::want_place(line, c, name_at);
-    let c = text::want_place(line, c, name_len);
-    text::want_place(line, c, peeled_at)
-}
-
-pub(crate) fn ask(line: &[u8], c: Cursor, kind: u32, file: &[u8], name: &[u8]) -> Cursor {
-    let r = host::seek::packed_refs_ask(kind, file, name);
-    let c = text::want_number(line, c, r.number);
+fn lookup(kind: u32, body: &[u8], name: &[u8]) {
+    let r = host::read::packed_refs_lookup(kind, body, name);
     let n = r.number;
+    tell::number(n);
     match n {
-        0 => record(line, c, r.place, r.name_at, r.name_len, r.peeled_at),
-        2 => text::want_place(line, c, r.text_len),
-        4 | 6 => text::want_place(line, c, r.place),
-        _ => c,
+        0 => record(r.place, r.name_at, r.name_len, r.peeled_at),
+        4 => tell::place(r.place),
+        _ => {},
     }
 }
 
-pub(crate) fn loose(line: &[u8], c: Cursor, kind: u32, content: &[u8]) -> Cursor {
-    let r = host::content::packed_refs_loose(kind, content);
-    let c = text::want_number(line, c, r.number);
-    if r.number != 0 {
-        return c;
+fn trusted(kind: u32, file: &[u8], name: &[u8]) {
+    let r = host::read::packed_refs_ask(kind, file, name);
+    let n = r.number;
+    tell::number(n);
+    match n {
+        0 => record(r.place, r.name_at, r.name_len, r.peeled_at),
+        2 => tell::place(r.text_len),
+        4 | 6 => tell::place(r.place),
+        _ => {},
     }
-    let c = text::want_number(line, c, r.what);
-    let c = text::want_place(line, c, r.at);
-    text::want_place(line, c, r.len)
+}
+
+fn loose(kind: u32, content: &[u8]) {
+    let r = host::read::packed_refs_loose(kind, content);
+    tell::number(r.number);
+    if r.number == 0 {
+        tell::number(r.what);
+        tell::place(r.at);
+        tell::place(r.len);
+    }
 }

@@ -1,53 +1,86 @@
-// A merge: its answer, the new file, the index, and that nothing else was written.
-use crate::text;
-use crate::text::Cursor;
+// A merge: its answer, the index, the new file, and whether anything else was written.
+use crate::question::Question;
+use crate::tell;
 
-// What the output and the index hold before.
-const UNTOUCHED: u8 = 165;
-
+// What the index and the output hold before.
 const NO_PLACE: u32 = 4294967295;
 
-// The answer that the line goes on with. The output and the index have exactly the lengths that the line gives; the room is for the new file
-// that it has.
-pub(crate) fn merge(
-    line: &[u8],
-    c: Cursor,
-    kind: u32,
-    old: &[u8],
-    edits: &[u8],
-    index: &mut [u32],
-    out: &mut [u8],
-    room: &mut [u8],
-) -> Cursor {
-    let size = out.len();
-    text::fill(out, 0, size, UNTOUCHED);
-    clear(index);
-    let r = host::write::packed_refs_merge(kind, old, edits, index, out);
-    answer(line, c, r, index, out, room)
+const UNTOUCHED: u8 = 165;
+
+fn index_space() -> [u32; 8192] {
+    [NO_PLACE; 8192]
 }
 
-fn answer(
-    line: &[u8],
-    c: Cursor,
-    r: host::write::MergeReply,
-    index: &[u32],
-    out: &[u8],
-    room: &mut [u8],
-) -> Cursor {
-    if !is_untouched(out, r.length) {
-        return text::lost();
+fn output_space() -> [u8; 65536] {
+    [UNTOUCHED; 65536]
+}
+
+pub(crate) fn merge(q: Question, old: &[u8], edits: &[u8]) {
+    let mut index = index_space();
+    let mut out = output_space();
+    lend(q, old, edits, &mut index, &mut out);
+}
+
+fn lend(q: Question, old: &[u8], edits: &[u8], index: &mut [u32; 8192], out: &mut [u8; 65536]) {
+    cut(q, old, edits, index, out);
+}
+
+// The index and the output have exactly the lengths that the question gives.
+fn cut(q: Question, old: &[u8], edits: &[u8], index: &mut [u32], out: &mut [u8]) {
+    let i = q.first;
+    let o = q.second;
+    if index.len() < i {
+        return;
     }
-    let c = told(line, c, r);
-    let c = written(line, c, r, out, room);
-    let c = text::want_mark(line, c, b'x');
-    entries(line, c, index)
+    if out.len() < o {
+        return;
+    }
+    write(q.kind, old, edits, &mut index[0..i], &mut out[0..o]);
 }
 
-fn clear(index: &mut [u32]) {
+fn write(kind: u32, old: &[u8], edits: &[u8], index: &mut [u32], out: &mut [u8]) {
+    let r = host::write::packed_refs_merge(kind, old, edits, index, out);
+    told(r);
+    entries(index);
+    written(out, r.length);
+}
+
+fn told(r: host::write::MergeReply) {
+    let n = r.number;
+    tell::number(n);
+    match n {
+        0 => tell::place(r.length),
+        2 => tell::place(r.text_len),
+        4 | 6 | 7 | 8 | 9 | 11 => tell::place(r.place),
+        _ => {},
+    }
+}
+
+// The entries that were written.
+fn entries(index: &[u32]) {
+    tell::text(b" x");
+    let mut shown = 0;
     let mut i = 0;
     while i < index.len() {
-        index[i] = NO_PLACE;
+        if index[i] != NO_PLACE {
+            if shown < i {
+                tell::text(b" behind a gap");
+            }
+            tell::number(index[i]);
+            shown = i + 1;
+        }
         i += 1;
+    }
+}
+
+// The new file as it stands, and whether the output holds what it held behind it.
+fn written(out: &[u8], n: usize) {
+    if !is_untouched(out, n) {
+        tell::text(b" and more was written");
+    }
+    if 0 < n {
+        tell::text(b"\n");
+        tell::text(parse::part::between(out, 0, n));
     }
 }
 
@@ -55,62 +88,6 @@ fn is_untouched(out: &[u8], from: usize) -> bool {
     let mut i = from;
     while i < out.len() {
         if out[i] != UNTOUCHED {
-            return false;
-        }
-        i += 1;
-    }
-    true
-}
-
-fn told(line: &[u8], c: Cursor, r: host::write::MergeReply) -> Cursor {
-    let c = text::want_number(line, c, r.number);
-    let n = r.number;
-    match n {
-        0 => text::want_place(line, c, r.length),
-        2 => text::want_place(line, c, r.text_len),
-        4 | 6 | 7 | 8 | 9 | 11 => text::want_place(line, c, r.place),
-        _ => c,
-    }
-}
-
-fn written(
-    line: &[u8],
-    c: Cursor,
-    r: host::write::MergeReply,
-    out: &[u8],
-    room: &mut [u8],
-) -> Cursor {
-    if r.number != 0 {
-        return c;
-    }
-    let n = r.length;
-    if out.len() < n {
-        return text::lost();
-    }
-    text::want_bytes(line, c, &out[0..n], room)
-}
-
-// The entries that were written are those of the line, and they come first.
-fn entries(line: &[u8], c: Cursor, index: &[u32]) -> Cursor {
-    let mut c = c;
-    let mut i = 0;
-    while i < index.len() {
-        if index[i] == NO_PLACE {
-            break;
-        }
-        c = text::want_number(line, c, index[i]);
-        i += 1;
-    }
-    if !is_free(index, i) {
-        return text::lost();
-    }
-    c
-}
-
-fn is_free(index: &[u32], from: usize) -> bool {
-    let mut i = from;
-    while i < index.len() {
-        if index[i] != NO_PLACE {
             return false;
         }
         i += 1;

@@ -8,10 +8,10 @@ use Rattle.compare.specs.declared.order.Order.{Order}
 use Rattle.compare.specs.declared.order.Order.the-variants.{Less, Equal, Greater}
 use Rattle.class.specs.Class.{Classes}
 use Rattle.compare.specs.Order.{orderOf}
-use Rattle.decode.specs.declared.shape.Shape.{Shape}
-use Rattle.decode.specs.declared.shape.Shape.the-variants.{Name, Fails}
-use Rattle.decode.specs.Shape.{shapeOf}
-use Rattle.decode.specs.Start.{recordStart}
+use Rattle.probe.specs.declared.shape.Shape.{Shape}
+use Rattle.probe.specs.declared.shape.Shape.the-variants.{Name, Fails}
+use Rattle.probe.specs.Shape.{shapeOf}
+use Rattle.probe.specs.Start.{recordStart}
 use Rattle.search.specs.declared.Found.{Found}
 use Rattle.search.specs.declared.Found.the-variants.{Hit, Miss}
 use Rattle.search.specs.declared.Probed.{Probed}

@@ -3,7 +3,7 @@ ghost use mathlib.Core.Path.{_≡_};
 ghost use Rattle.class.specs.Class.{classesOf};
 ghost use Rattle.search.specs.Search.{searchOf, probedOf};
 use compare::order::Order;
-use decode::shape::Shape;
+use probe::shape::Shape;
 
 pub enum Found {
     // The start of the record whose name is the wanted one.
@@ -28,12 +28,12 @@ pub fn search(t: &[u8; 256], n: usize, s: &[u8], wanted: &[u8]) -> Found
     loop {
         if high <= low {
             break Found::Miss {
-                place: decode::start::record_start(s, low),
+                place: probe::start::record_start(s, low),
                 failed,
             };
         }
         let middle = low + (high - low) / 2;
-        let start = decode::start::record_start(s, middle);
+        let start = probe::start::record_start(s, middle);
         let probed = probe(t, n, parse::part::between(s, start, s.len()), wanted);
         failed = failed | probed.failed;
         let order = probed.order;
@@ -55,7 +55,7 @@ pub fn search(t: &[u8; 256], n: usize, s: &[u8], wanted: &[u8]) -> Found
 pub(crate) fn probe(t: &[u8; 256], n: usize, s: &[u8], wanted: &[u8]) -> Probed
     ensures { λ r. ⌜ r ≡ probedOf (classesOf (now (t .entry))) n (now (s .entry)) (now (wanted .entry)) ⌝ }
 {
-    match decode::shape::name_at_record_start(t, s, n) {
+    match probe::shape::name_at_record_start(t, s, n) {
         Shape::Name(name) => {
             let from = n + 1;
             Probed {

@@ -4,7 +4,7 @@ use lib.ListN.{length}
 use Rattle.parse.specs.Limit.{admission}
 use Rattle.class.specs.Class.{paper}
 use Rattle.merge.specs.Merge.{newFile, oldEntries, editsInOrder, outputBy, mergeAnswer, indexAnswer, outputAfter}
-use Rattle.merge.proofs.Admitted.{admitted}
+use Rattle.parse.proofs.Admitted.{admitted}
 use borrow.Author.Needs.{needs}
 use Rattle.merge.proofs.merge.Statement.{statement}
 use Rattle.merge.proofs.merge.Tie as tie

@@ -3,7 +3,7 @@ use mathlib.Core.Path.{_≡_, refl, sym, _∙_}
 use Prim.Native.Nat.{_-_}
 use lib.ListN.{length, drop}
 use Rattle.put.specs.Put.{over}
-use Rattle.put.specs.Text.{hexText}
+use Rattle.text.specs.Text.{hexText}
 use Rattle.put.proofs.Laws.{over-beyond}
 use Rattle.put.proofs.Turns.{hex-turn, hex-end}
 use borrow.Author.Needs.{needs}

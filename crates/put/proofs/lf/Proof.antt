@@ -4,7 +4,7 @@ use Prim.Native.Nat.{_+_, _-_, _≤_}
 use native.Mathlib.Nat.{add-zero, zero-add}
 use lib.ListN.{length, drop}
 use Rattle.put.specs.Put.{over}
-use Rattle.put.specs.Text.{withoutCR}
+use Rattle.text.specs.Text.{withoutCR}
 use Rattle.put.proofs.Turns.{piece-fits, piece-turn, piece-last, length-turn, length-last}
 use borrow.Author.Needs.{needs}
 use Rattle.put.proofs.lf.Statement.{statement}

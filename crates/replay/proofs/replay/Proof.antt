@@ -1,4 +1,4 @@
--- `replay::replay` is safe and ends. The loop keeps its place within the file, and each line brings the place nearer to the end.
+-- `replay::replay` is safe and ends: it goes on only where a question brings the place nearer to the end.
 use Prim.Native.Nat.{_-_, _≤_}
 use lib.ListN.{length}
 use borrow.Author.Needs.{needs}
@@ -6,31 +6,16 @@ use Rattle.replay.proofs.replay.Statement.{statement}
 use Rattle.replay.proofs.replay.Tie as tie
 
 abbrev Inv-loop : tie.InvT-loop
-Inv-loop file a₀ b₀ index₀ out₀ room₀ t₀ at₀ a b index out room t at = at ≤ length file
+Inv-loop file at₀ at = 0 ≤ at
 
 abbrev μ-loop : tie.MeasureT-loop
-μ-loop file a₀ b₀ index₀ out₀ room₀ t₀ at₀ a b index out room t at = length file - at
+μ-loop file at₀ at = length file - at
 
 loop-holds : tie.Need-loop-holds Inv-loop μ-loop
 loop-holds c = search needs
 
-find-requires : tie.Need-find-requires Inv-loop μ-loop
-find-requires c κs = search needs
-
-sub-replay-line : tie.Need-sub-replay-line Inv-loop μ-loop
-sub-replay-line c = search needs
-
-part-replay-line-start : tie.Need-part-replay-line-start Inv-loop μ-loop
-part-replay-line-start c = search needs
-
-part-replay-line-end : tie.Need-part-replay-line-end Inv-loop μ-loop
-part-replay-line-end c = search needs
-
-replay-line-requires : tie.Need-replay-line-requires Inv-loop μ-loop
-replay-line-requires c κs = search needs
-
-add-at : tie.Need-add-at Inv-loop μ-loop
-add-at c = search needs
+answer-requires : tie.Need-answer-requires Inv-loop μ-loop
+answer-requires c κs = search needs
 
 loop-less : tie.Need-loop-less Inv-loop μ-loop
 loop-less c = search needs
@@ -38,26 +23,13 @@ loop-less c = search needs
 loop-again : tie.Need-loop-again Inv-loop μ-loop
 loop-again c = search needs
 
-print-tally-requires : tie.Need-print-tally-requires Inv-loop μ-loop
-print-tally-requires c κs = search needs
-
 returns : tie.Need-returns Inv-loop μ-loop
 returns c = search needs
+
+returns-2 : tie.Need-returns-2 Inv-loop μ-loop
+returns-2 c = search needs
 
 pub replay-spec : {M : Type 1} → statement M
 replay-spec =
     tie.close
-    (tie.spec
-    Inv-loop
-    μ-loop
-    loop-holds
-    find-requires
-    sub-replay-line
-    part-replay-line-start
-    part-replay-line-end
-    replay-line-requires
-    add-at
-    loop-less
-    loop-again
-    print-tally-requires
-    returns)
+    (tie.spec Inv-loop μ-loop loop-holds answer-requires loop-less loop-again returns returns-2)

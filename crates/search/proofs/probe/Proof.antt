@@ -6,7 +6,7 @@ use native.Mathlib.Omega.{arith}
 use lib.ListN.{take, drop}
 use Rattle.class.specs.Class.{classesOf}
 use Rattle.compare.specs.Order.{orderOf}
-use Rattle.decode.proofs.Shapes.{shape-fits}
+use Rattle.probe.proofs.Shapes.{shape-fits}
 use Rattle.search.specs.Search.{probedOf}
 use borrow.Author.Needs.{needs}
 use Rattle.search.proofs.probe.Statement.{statement}

@@ -4,8 +4,8 @@ use native.Mathlib.Omega.{arith}
 use lib.ListN.{drop, length-drop}
 use Rattle.class.specs.Class.{classesOf}
 use Rattle.parse.proofs.Slices.{rest-is}
-use Rattle.iter.specs.Start.{startOf}
-use Rattle.iter.proofs.Begins.{start-inside}
+use Rattle.start.specs.Start.{startOf}
+use Rattle.start.proofs.Begins.{start-inside}
 use Rattle.find.specs.Listing.{listingFrom}
 use borrow.Author.Needs.{needs}
 use Rattle.find.proofs.listing.list_from.Statement.{statement}

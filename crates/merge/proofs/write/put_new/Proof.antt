@@ -7,7 +7,7 @@ use native.Mathlib.Omega.{arith}
 use lib.ListN.{length, getD, take, drop, length-append}
 use Rattle.change.specs.Change.{behindName}
 use Rattle.put.specs.Put.{over}
-use Rattle.put.specs.Text.{hexText}
+use Rattle.text.specs.Text.{hexText}
 use Rattle.put.proofs.Laws.{over-nil}
 use Rattle.merge.specs.Entry.{recordLine, objectLine}
 use Rattle.merge.proofs.Splice.{over-then, firstLine, secondLine, lines-none, lines-one, lines-two, length-part, length-name, length-first, length-second}

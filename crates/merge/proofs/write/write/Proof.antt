@@ -6,7 +6,7 @@ use native.Mathlib.Omega.{arith}
 use lib.ListN.{length, getD, length-append}
 use Rattle.parse.proofs.Slices.{rest-is}
 use Rattle.put.specs.Put.{over}
-use Rattle.put.specs.Text.{withoutCR}
+use Rattle.text.specs.Text.{withoutCR}
 use Rattle.merge.specs.Merge.{headerLine}
 use Rattle.merge.specs.Splice.{splicedFile}
 use Rattle.merge.proofs.Splice.{over-then, length-new, oldBytes, length-old, splicedFrom, spliced-end, put-turn}

@@ -1,0 +1,46 @@
+// Where the record begins that a place lies in.
+ghost use mathlib.Core.Path.{_≡_};
+ghost use Prim.Native.Nat.{_≤_};
+ghost use lib.ListN.{length};
+ghost use Rattle.probe.specs.Start.{lineStart, recordStart};
+
+// The start of the record that a place lies in, by line feeds alone.
+pub fn record_start(s: &[u8], place: usize) -> usize
+    ensures { λ r. ⌜ r ≡ recordStart (now (s .entry)) place ⌝ }
+{
+    let start = line_start(s, place);
+    if s.len() <= start {
+        return 0;
+    }
+    if s[start] != b'^' {
+        return start;
+    }
+    if start == 0 {
+        return 0;
+    }
+    line_start(s, start - 1)
+}
+
+// The byte after the last LF before a place, or 0. A place beyond the end counts as the end.
+pub(crate) fn line_start(s: &[u8], place: usize) -> usize
+    ensures { λ r. ⌜ r ≡ lineStart (now (s .entry)) place ⌝ }
+{
+    if s.len() < place {
+        return line_start_within(s, s.len());
+    }
+    line_start_within(s, place)
+}
+
+fn line_start_within(s: &[u8], place: usize) -> usize
+    requires { ⌜ place ≤ length (now s) ⌝ }
+    ensures { λ r. ⌜ r ≡ lineStart (now (s .entry)) place ⌝ }
+{
+    let mut i = place;
+    while 0 < i {
+        if s[i - 1] == b'\n' {
+            return i;
+        }
+        i -= 1;
+    }
+    0
+}

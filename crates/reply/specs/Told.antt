@@ -1,0 +1,33 @@
+-- The places of a record that starts at a place, counted where that is counted; numbers for an enum.
+use Prim.Native.Nat.{ℕ, _+_, _≤_}
+use lib.Dec.{eqb}
+use Rattle.parse.specs.declared.limit.IdKind.{IdKind}
+use Rattle.parse.specs.declared.limit.IdKind.the-variants.{Digits, Unknown}
+use Rattle.parse.specs.Choice.{if}
+use Rattle.parse.specs.Limit.{digitsOf}
+use Rattle.decode.specs.declared.reference.Record.{Record}
+use Rattle.header.specs.declared.Peeled.{Peeled}
+use Rattle.header.specs.declared.Peeled.the-variants.{Unspecified, Partial, Fully}
+
+-- a record that starts at a place, and its peeled id, lie in bytes under the size limit, so that their places fit
+abbrev pub Near : ℕ → Record → Type 0
+Near place r = (place ≤ 1073741824) × (r .object ≤ 1073741824)
+
+-- the digits of an id; where the kind is unknown there are none
+abbrev pub idLen : IdKind → ℕ
+idLen (Digits n) = n
+idLen Unknown = 0
+
+-- "Record: id, one space, valid name"
+unfoldable pub nameAt : ℕ → ℕ → ℕ
+nameAt kind place = place + idLen (digitsOf kind) + 1
+
+-- the peeled id stands at a place of the record that is not 0, if it has one
+unfoldable pub peeledAt : ℕ → ℕ → ℕ
+peeledAt place object = if (eqb object 0) 0 (place + object)
+
+-- "one of three peeled states (unspecified, partial, fully)"
+abbrev pub peeledNumber : Peeled → ℕ
+peeledNumber Unspecified = 0
+peeledNumber Partial = 1
+peeledNumber Fully = 2

@@ -1,0 +1,67 @@
+// The header of a file, and the rules of a name.
+ghost use mathlib.Core.Path.{_≡_};
+ghost use Rattle.header.specs.Header.{headerAnswer};
+ghost use Rattle.reply.specs.Head.{headerReply, headerBare, nameNumber};
+use header::HeaderAnswer;
+
+#[repr(C)]
+pub struct HeaderReply {
+    pub number: u32,
+    // 0 unspecified, 1 partial, 2 fully.
+    pub peeled: u32,
+    pub sorted: u32,
+    // Behind the header; 0 without one.
+    pub place: usize,
+    // The length of number 2's text, which starts at 0.
+    pub text_len: usize,
+}
+
+pub fn header_reply(file: &[u8]) -> HeaderReply
+    ensures { λ r. ⌜ r ≡ headerReply (headerAnswer (now (file .entry))) ⌝ }
+{
+    header_told(header::read_header(file))
+}
+
+fn header_told(answer: HeaderAnswer) -> HeaderReply
+    ensures { λ r. ⌜ r ≡ headerReply answer ⌝ }
+{
+    match answer {
+        HeaderAnswer::Done(h) => {
+            let peeled = h.peeled;
+            HeaderReply {
+                number: 0,
+                peeled: crate::told::peeled_number(peeled),
+                sorted: crate::told::flag(h.sorted),
+                place: h.body,
+                text_len: 0,
+            }
+        },
+        HeaderAnswer::Unreadable(text) => bare(2, text),
+        HeaderAnswer::TooLarge => bare(17, 0),
+    }
+}
+
+fn bare(number: u32, text: usize) -> HeaderReply
+    ensures { λ r. ⌜ r ≡ headerBare number text ⌝ }
+{
+    HeaderReply {
+        number,
+        peeled: 0,
+        sorted: 0,
+        place: 0,
+        text_len: text,
+    }
+}
+
+// The number alone: 0 for a valid name, 3 for another, 17.
+pub fn name_number(name: &[u8]) -> u32
+    ensures { λ r. ⌜ r ≡ nameNumber (now (name .entry)) ⌝ }
+{
+    if parse::limit::over_limit(name.len()) {
+        return 17;
+    }
+    if name::is_valid(name) {
+        return 0;
+    }
+    3
+}

@@ -1,0 +1,57 @@
+-- `start::begin` meets its contract: 1 and 17 first, and the table's classes are the paper's.
+use mathlib.Core.Path.{_≡_, sym, ap, _∙_}
+use Rattle.class.proofs.Classes.{by-paper}
+use Rattle.start.specs.declared.StartAnswer.the-variants.{Done}
+use Rattle.start.specs.Start.{startOf, startAnswer}
+use borrow.Author.Needs.{needs}
+use Rattle.start.proofs.begin.Statement.{statement}
+use Rattle.start.proofs.begin.Tie as tie
+
+admit-requires : tie.Need-admit-requires
+admit-requires c κs = search needs
+
+enum-told : tie.Need-enum-told
+enum-told c = search needs
+
+table-requires : tie.Need-table-requires
+table-requires c κs = search needs
+
+begin-by-requires : tie.Need-begin-by-requires
+begin-by-requires c κs = search needs
+
+enum-told-2 : tie.Need-enum-told-2
+enum-told-2 c = search needs
+
+enum-told-3 : tie.Need-enum-told-3
+enum-told-3 c = search needs
+
+returns : tie.Need-returns
+unfolding startAnswer
+returns c =
+    let t = c .before .before in
+    let k = t .before in
+    let a = k .before .before .before .before .args in
+    rw (sym (k .before .before .admit .ensures) ∙ k .enum-told .given .1)
+    (ap Done (c .begin-by .ensures ∙ by-paper (λ byte. startOf byte (a .file .now)) (t .table .ensures)))
+
+returns-2 : tie.Need-returns-2
+unfolding startAnswer
+returns-2 c = rw (sym (c .before .before .admit .ensures) ∙ c .enum-told2 .given .1)
+
+returns-3 : tie.Need-returns-3
+unfolding startAnswer
+returns-3 c = rw (sym (c .before .before .admit .ensures) ∙ c .enum-told3 .given .1)
+
+pub begin-spec : {M : Type 1} → statement M
+begin-spec =
+    tie.close
+    (tie.spec
+    admit-requires
+    enum-told
+    table-requires
+    begin-by-requires
+    enum-told-2
+    enum-told-3
+    returns
+    returns-2
+    returns-3)

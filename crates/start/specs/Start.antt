@@ -1,0 +1,37 @@
+-- The start of an iteration over a whole file.
+use mathlib.Core.List.{List}
+use Prim.Native.Nat.{ℕ}
+use lib.Dec.{eqb}
+use lib.ListN.{length, getD}
+use Rattle.parse.specs.Choice.{if}
+use Rattle.class.specs.Class.{Classes, paper}
+use Rattle.parse.specs.Limit.{admission, admit}
+use Rattle.header.specs.declared.Opened.{Opened}
+use Rattle.header.specs.declared.Opened.the-variants.{Header, Unreadable}
+use Rattle.header.specs.Header.{headerOf}
+use Rattle.start.specs.declared.Start.{Start}
+use Rattle.start.specs.declared.Start.the-variants.{At, BadHeader}
+use Rattle.start.specs.declared.StartAnswer.{StartAnswer}
+use Rattle.start.specs.declared.StartAnswer.the-variants.{Done, UnknownKind, TooLarge}
+
+-- "Empty bytes: no items, number 1. First byte `#`: header, then number 2. Otherwise number 1."
+unfoldable pub firstItem : List ℕ → ℕ
+firstItem s = if (eqb (getD s 0 0) 35) 2 1
+
+abbrev pub startBy : List ℕ → Opened → Start
+startBy s (Header h) = At (h .body) (firstItem s)
+startBy s (Unreadable k) = BadHeader k
+
+unfoldable pub startOf : Classes → List ℕ → Start
+startOf byte s = startBy s (headerOf byte s)
+
+-- with the kind's number first, then the size limit
+unfoldable pub startAnswer : ℕ → List ℕ → StartAnswer
+startAnswer kind s = admit (admission kind (length s) 0) (λ n. Done (startOf paper s)) UnknownKind TooLarge
+
+-- the paper's number for each case
+abbrev pub startNumber : StartAnswer → ℕ
+startNumber (Done (At place item)) = 0
+startNumber (Done (BadHeader k)) = 2
+startNumber UnknownKind = 1
+startNumber TooLarge = 17
