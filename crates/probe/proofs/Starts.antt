@@ -2,9 +2,9 @@
 use mathlib.Core.Path.{_≡_, refl, sym, ap, _∙_}
 use mathlib.Core.Bool.{Bool, true, false}
 use mathlib.Core.List.{List}
-use Prim.Native.Nat.{ℕ, zero, suc, _-_, _≤_, _<_}
+use Prim.Native.Nat.{ℕ, zero, suc, _+_, _-_, _≤_, _<_}
 use native.Mathlib.Omega.{arith}
-use native.Mathlib.Nat.{le-suc-iff}
+use native.Mathlib.Nat.{add-zero, le-suc-iff}
 use mathlib.Core.Logic.{_⊎_, inl, inr}
 use lib.Dec.{ltb, eqb}
 use lib.ListN.{getD, length, List·getD-eq-default}
@@ -25,6 +25,13 @@ module _ (s : List ℕ) where
   pub line-back : (i : ℕ) → 0 < i → (getD s (i - 1) 0 ≡ 10 → ⊥) → lineStart s i ≡ lineStart s (i - 1)
   line-back zero h e = absurd (omega arith)
   line-back (suc p) h e = let q : suc p - 1 ≡ p = omega arith in rw (q, ne-eqb (getD s p 0) 10 (rw q at e))
+
+  -- over bytes without any
+  pub line-skip : (i k : ℕ) → ((j : ℕ) → j < k → getD s (i + j) 0 ≡ 10 → ⊥) → lineStart s (i + k) ≡ lineStart s i
+  line-skip i zero none = ap (lineStart s) (add-zero i)
+  line-skip i (suc k) none =
+      let q : i + suc k ≡ suc (i + k) = omega arith in
+      rw (q, ne-eqb (getD s (i + k) 0) 10 (none k (omega arith))) (line-skip i k (λ j h. none j (omega arith)))
 
   pub line-le : (i : ℕ) → lineStart s i ≤ i
   line-le zero = omega arith

@@ -31,7 +31,22 @@ pub(crate) fn line_start(s: &[u8], place: usize) -> usize
     line_start_within(s, place)
 }
 
+// Sixteen bytes a step where there is no LF, then byte by byte.
 fn line_start_within(s: &[u8], place: usize) -> usize
+    requires { ⌜ place ≤ length (now s) ⌝ }
+    ensures { λ r. ⌜ r ≡ lineStart (now (s .entry)) place ⌝ }
+{
+    let mut i = place;
+    while 16 <= i {
+        if block::among16(s, i - 16, b'\n') {
+            break;
+        }
+        i -= 16;
+    }
+    by_one(s, i)
+}
+
+fn by_one(s: &[u8], place: usize) -> usize
     requires { ⌜ place ≤ length (now s) ⌝ }
     ensures { λ r. ⌜ r ≡ lineStart (now (s .entry)) place ⌝ }
 {

@@ -17,7 +17,7 @@ fn answer(file: &[u8], at: usize) -> usize {
     let q = question::read(file, at);
     tell::text(parse::part::between(file, at, q.a));
     if q.letter == b'#' {
-        return q.a;
+        return q.next;
     }
     let a = parse::part::between(file, q.a, q.b);
     let b = parse::part::between(file, q.b, q.end);
@@ -28,7 +28,7 @@ fn answer(file: &[u8], at: usize) -> usize {
         ask::ask(q, a, b);
     }
     tell::text(b"\n");
-    parse::line::line_end(file, q.end)
+    q.next
 }
 
 fn replay(file: &[u8]) {

@@ -25,7 +25,7 @@ fn lend(q: Question, old: &[u8], edits: &[u8], index: &mut [u32; 8192], out: &mu
     cut(q, old, edits, index, out);
 }
 
-// The index and the output have exactly the lengths that the question gives.
+// The index and the output have exactly the lengths that the question gives. Where there is no room for that, nothing is asked or answered.
 fn cut(q: Question, old: &[u8], edits: &[u8], index: &mut [u32], out: &mut [u8]) {
     let i = q.first;
     let o = q.second;

@@ -9,6 +9,8 @@ pub(crate) struct Question {
     pub a: usize,
     pub b: usize,
     pub end: usize,
+    // Behind the LF that ends the question.
+    pub next: usize,
     pub first: usize,
     pub second: usize,
 }
@@ -40,17 +42,20 @@ pub(crate) fn read(file: &[u8], at: usize) -> Question {
         return no_question(b'?', a);
     }
     let b = behind(file, a, a_len.value as usize);
+    let end = behind(file, b, b_len.value as usize);
     Question {
         letter,
         kind: kind.value as u32,
         a,
         b,
-        end: behind(file, b, b_len.value as usize),
+        end,
+        next: parse::line::line_end(file, end),
         first: first.value as usize,
         second: second.value as usize,
     }
 }
 
+// A line alone.
 fn no_question(letter: u8, next: usize) -> Question {
     Question {
         letter,
@@ -58,6 +63,7 @@ fn no_question(letter: u8, next: usize) -> Question {
         a: next,
         b: next,
         end: next,
+        next,
         first: 0,
         second: 0,
     }

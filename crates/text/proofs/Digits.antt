@@ -1,6 +1,5 @@
--- The sixteen digits as a table, and what one look at sixteen bytes says of each.
-use mathlib.Core.Path.{_≡_, refl, sym, ap, _∙_}
-use mathlib.Core.Bool.{Bool, true, false, not, _||_, false≢true}
+-- The sixteen digits as a table.
+use mathlib.Core.Path.{_≡_, ap, _∙_}
 use Prim.Native.Nat.{ℕ, _<_}
 use native.Mathlib.Nat.{zero-add}
 use lib.ListN.{getD}
@@ -11,8 +10,3 @@ use Rattle.text.specs.Text.{hexDigit}
 -- the entries of the digits
 pub digit-at : (k : ℕ) → k < 16 → getD (valuesFrom hexDigit 0 16) k 0 ≡ hexDigit k
 digit-at k h = value-at hexDigit 0 16 k h ∙ ap hexDigit (zero-add k)
-
-pub neither : (a b : Bool) → a || b ≡ false → (a ≡ false) × (not b ≡ true)
-neither true b e = absurd (false≢true (sym e))
-neither false true e = absurd (false≢true (sym e))
-neither false false e = (refl, refl)

@@ -1,8 +1,7 @@
 // The next CR, sixteen bytes a step where there is none, then byte by byte.
 ghost use mathlib.Core.Path.{_≡_};
-ghost use mathlib.Core.Bool.{true, false};
-ghost use Prim.Native.Nat.{ℕ, _+_, _≤_, _<_};
-ghost use lib.ListN.{length, getD, drop};
+ghost use Prim.Native.Nat.{_+_};
+ghost use lib.ListN.{drop};
 ghost use Rattle.parse.specs.Run.{span};
 ghost use Rattle.text.specs.Text.{notCR};
 
@@ -16,26 +15,12 @@ pub fn next(s: &[u8], at: usize) -> usize
         if n - i < 16 {
             return by_one(s, i);
         }
-        if any16(s, i) {
+        if block::among16(s, i, b'\r') {
             return by_one(s, i);
         }
         i += 16;
     }
     i
-}
-
-// Whether a CR is among the sixteen bytes from i on. With no early way out, so that it compiles to vector code.
-fn any16(s: &[u8], i: usize) -> bool
-    requires { ⌜ i + 16 ≤ length (now s) ⌝ }
-    ensures { λ r. ⌜ (r ≡ false → (k : ℕ) → k < 16 → notCR (getD (now (s .entry)) (i + k) 0) ≡ true) ⌝ }
-{
-    let mut any = false;
-    let mut k = 0;
-    while k < 16 {
-        any = any | (s[i + k] == b'\r');
-        k += 1;
-    }
-    any
 }
 
 fn by_one(s: &[u8], at: usize) -> usize

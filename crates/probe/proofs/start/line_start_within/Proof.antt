@@ -1,9 +1,10 @@
--- `probe::start::line_start_within` meets its contract: the line that i lies in begins where the place's line does.
-use mathlib.Core.Path.{_≡_, sym, _∙_}
-use Prim.Native.Nat.{_≤_}
-use lib.ListN.{length}
+-- `probe::start::line_start_within` meets its contract: sixteen bytes without an LF are passed over, the rest goes byte by byte.
+use mathlib.Core.Path.{_≡_, sym, ap, _∙_}
+use Prim.Native.Nat.{_+_, _-_, _≤_}
+use borrow.Author.Tests.{eqb-false}
+use Rattle.block.proofs.Members.{none-among}
 use Rattle.probe.specs.Start.{lineStart}
-use Rattle.probe.proofs.Starts.{line-first, line-stop, line-back}
+use Rattle.probe.proofs.Starts.{line-skip}
 use borrow.Author.Needs.{needs}
 use Rattle.probe.proofs.start.line_start_within.Statement.{statement}
 use Rattle.probe.proofs.start.line_start_within.Tie as tie
@@ -17,19 +18,8 @@ abbrev μ-loop : tie.MeasureT-loop
 loop-holds : tie.Need-loop-holds Inv-loop μ-loop
 loop-holds c = search needs
 
-sub-if1 : tie.Need-sub-if1 Inv-loop μ-loop
-sub-if1 c = search needs
-
-shared-slice-read-if1 : tie.Need-shared-slice-read-if1 Inv-loop μ-loop
-shared-slice-read-if1 c = search needs
-
-returns : tie.Need-returns Inv-loop μ-loop
-returns c =
-    let l = c .before .before .before in
-    sym (line-stop (l .before .args .s .now) (l .loop .i) (search needs) (c .if1 .taken)) ∙ l .loop .inv .1
-
-sub-i : tie.Need-sub-i Inv-loop μ-loop
-sub-i c = search needs
+among16-requires : tie.Need-among16-requires Inv-loop μ-loop
+among16-requires c κs = search needs
 
 loop-less : tie.Need-loop-less Inv-loop μ-loop
 loop-less c = search needs
@@ -37,12 +27,16 @@ loop-less c = search needs
 loop-again : tie.Need-loop-again Inv-loop μ-loop
 loop-again c =
     let l = c .before .before .before in
-    (search needs, sym (line-back (l .before .args .s .now) (l .loop .i) (search needs) (c .if1 .left)) ∙ l .loop .inv .1)
+    let s = l .before .before .args .s .now in
+    let i = l .loop .i in
+    let whole : i - 16 + 16 ≡ i = search needs in
+    (search needs, sym (line-skip s (i - 16) 16 (λ j h. eqb-false _ _ (none-among 10 s (i - 16) 16 j (sym (c .before .among16 .ensures) ∙ c .if1 .left) h (search needs)))) ∙ ap (lineStart s) whole ∙ l .loop .inv .1)
 
-returns-2 : tie.Need-returns-2 Inv-loop μ-loop
-returns-2 c =
-    let l = c .before in
-    sym (line-first (l .before .args .s .now) (l .loop .i) (search needs)) ∙ l .loop .inv .1
+by-one-requires : tie.Need-by-one-requires Inv-loop μ-loop
+by-one-requires c κs = search needs
+
+returns : tie.Need-returns Inv-loop μ-loop
+returns c = c .by-one .ensures ∙ c .before .before .loop .inv .1
 
 pub line-start-within-spec : {M : Type 1} → statement M
 line-start-within-spec =
@@ -51,10 +45,8 @@ line-start-within-spec =
     Inv-loop
     μ-loop
     loop-holds
-    sub-if1
-    shared-slice-read-if1
-    returns
-    sub-i
+    among16-requires
     loop-less
     loop-again
-    returns-2)
+    by-one-requires
+    returns)

@@ -1,8 +1,10 @@
 -- `text::cr::next` meets its contract: sixteen bytes without a CR are passed over, the rest goes byte by byte.
-use mathlib.Core.Path.{_≡_, refl, sym, _∙_}
+use mathlib.Core.Path.{_≡_, refl, sym, ap, _∙_}
+use mathlib.Core.Bool.{not}
 use Prim.Native.Nat.{_+_, _-_}
 use native.Mathlib.Omega.{arith}
 use lib.ListN.{drop}
+use Rattle.block.proofs.Members.{none-among}
 use Rattle.parse.specs.Run.{span}
 use Rattle.parse.proofs.Runs.{span-end, skip}
 use Rattle.text.specs.Text.{notCR}
@@ -28,8 +30,8 @@ by-one-requires c κs = search needs
 returns : tie.Need-returns Inv-loop μ-loop
 returns c = c .by-one .ensures ∙ c .before .before .before .loop .inv
 
-any16-requires : tie.Need-any16-requires Inv-loop μ-loop
-any16-requires c κs = search needs
+among16-requires : tie.Need-among16-requires Inv-loop μ-loop
+among16-requires c κs = search needs
 
 by-one-requires-2 : tie.Need-by-one-requires-2 Inv-loop μ-loop
 by-one-requires-2 c κs = search needs
@@ -46,7 +48,7 @@ loop-less c = search needs
 loop-again : tie.Need-loop-again Inv-loop μ-loop
 loop-again c =
     let l = c .before .before .before .before in
-    sym (skip notCR (l .before .before .args .s .now) (l .loop .i) 16 (search needs) (c .before .any16 .ensures (c .if2 .left))) ∙ l .loop .inv
+    sym (skip notCR (l .before .before .args .s .now) (l .loop .i) 16 (search needs) (λ k h. ap not (none-among 13 (l .before .before .args .s .now) (l .loop .i) 16 k (sym (c .before .among16 .ensures) ∙ c .if2 .left) h (search needs)))) ∙ l .loop .inv
 
 returns-3 : tie.Need-returns-3 Inv-loop μ-loop
 returns-3 c =
@@ -63,7 +65,7 @@ next-spec =
     sub-if1
     by-one-requires
     returns
-    any16-requires
+    among16-requires
     by-one-requires-2
     returns-2
     add-i
