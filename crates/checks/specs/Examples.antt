@@ -7,10 +7,10 @@ use Rattle.decode.specs.declared.reference.Fault.the-variants.{Id, LineEnd, Pee
 use Rattle.checks.specs.declared.Verdict.{Verdict}
 use Rattle.checks.specs.declared.Verdict.the-variants.{Clean, BadRecord}
 use Rattle.checks.specs.Check.{checkOf}
-use Rattle.iter.specs.Handed.{Handed, good, error, handed}
-use Rattle.iter.specs.Items.{items}
+use Rattle.handed.specs.Handed.{Handed, good, error, whats}
+use Rattle.handed.specs.Run.{readOf, outOf}
 
--- some bytes, what iterating over them hands out, and the check's verdict on them
+-- some bytes, what reading them from the start to the end hands out, and the check's verdict on them
 pub record Case : Type 0 where
   pub bytes : List ℕ
   pub out : List Handed
@@ -18,7 +18,7 @@ pub record Case : Type 0 where
 
 -- the case as it computes
 abbrev pub computed : Case → Case
-computed c = record { bytes = c .bytes; out = handed 40 1 (items paper 40 (c .bytes)); verdict = checkOf paper 40 (c .bytes) }
+computed c = record { bytes = c .bytes; out = whats (outOf (readOf paper 40 (c .bytes))); verdict = checkOf paper 40 (c .bytes) }
 
 abbrev pub allComputed : List Case → List Case
 allComputed [] = []

@@ -15,4 +15,3 @@ pub mod RecordStarts
 pub mod Rest
 pub mod Searched
 pub mod Sides
-pub mod Walk

@@ -10,7 +10,11 @@ use lib.ListN.{getD, length, drop, length-append, List·getD-eq-default}
 use borrow.Author.Tests.{ltb-true, ltb-false, ne-eqb}
 use Rattle.compare.specs.declared.order.Order.the-variants.{Less}
 use Rattle.class.specs.Class.{paper, isHex}
+use Rattle.parse.specs.Choice.{if}
 use Rattle.compare.specs.Order.{orderOf}
+use Rattle.compare.specs.Prefix.{begins}
+use Rattle.decode.specs.declared.reference.Reading.{Reading}
+use Rattle.decode.specs.declared.reference.Reading.the-variants.{Good, Bad}
 use Rattle.decode.specs.Record.{recordOf}
 use Rattle.header.proofs.Headers.{no-hash}
 use Rattle.start.specs.declared.Start.the-variants as start
@@ -20,6 +24,8 @@ use Rattle.iter.specs.Stands.{Stands}
 use Rattle.start.specs.Start.{firstItem, startOf}
 use Rattle.iter.proofs.Each.{each}
 use Rattle.iter.proofs.Items.{items-step, tile}
+use Rattle.handed.specs.Hands.{unlessOther, upToOther, allOf}
+use Rattle.handed.proofs.Runs.{hands-out}
 use Rattle.find.specs.declared.listing.Listing.the-variants.{From}
 use Rattle.search.specs.Search.{searchOf}
 use Rattle.find.specs.Listing.{placeOf, listingFrom, listingOf}
@@ -29,7 +35,6 @@ use Rattle.find.proofs.Cut.{Smaller, Cut, here, none, cut}
 use Rattle.find.proofs.Leading.{leading, leading-all, none-before, none-leading}
 use Rattle.find.proofs.RecordLines.{first-hex}
 use Rattle.find.proofs.Rest.{bytes-append, items-from, good-from, up-from}
-use Rattle.find.proofs.Walk.{walk-leads}
 
 -- ---- the start: records begin with hex digits, so the `#` rule does nothing
 
@@ -54,7 +59,20 @@ from-place : (s : List ℕ) (place : ℕ) → startOf paper (drop place s) ≡ s
 unfolding listingFrom
 from-place s place e = rw (e, add-zero place)
 
--- ---- the walk
+-- ---- the steps
+
+-- among records, those up to the first of another name are the leading ones
+good-leads : (n : ℕ) (prefix : List ℕ) (l : List Item) → allGood l ≡ true → upToOther n prefix l ≡ leading n prefix l
+good-leads n prefix [] g = refl
+good-leads n prefix (i ∷ l) g =
+    let both = and-eq-true-iff (isGood (i .what)) (allGood l) .0 g in
+    go (i .what) (both .0) (begins prefix (nameOf n i)) (good-leads n prefix l (both .1))
+  where
+    go : (w : Reading) → isGood w ≡ true → (b : Bool) → upToOther n prefix l ≡ leading n prefix l
+        → unlessOther w b (i ∷ upToOther n prefix l) ≡ if b (i ∷ leading n prefix l) []
+    go (Good r) h true ih = ap (λ (m : List Item). i ∷ m) ih
+    go (Good r) h false ih = refl
+    go (Bad f) h b ih = cc
 
 -- from what is said by places to the items themselves
 each-smaller : {n : ℕ} {s prefix : List ℕ} (before rest : List Item) → items paper n s ≡ before ++ rest → Smaller n s prefix (length (bytesOf before))
@@ -101,5 +119,7 @@ lists-exactly n pos s count passes prefix =
     record {
       place = place;
       start = from-place s place (starts-at n pos (drop place s) (l .rest));
-      all = walk-leads n prefix s (suc (length s)) place (omega arith) (l .rest) ∙ l .leads;
+      all =
+          λ turns h. hands-out paper n prefix s place 1 .all turns h
+          ∙ ap (allOf n (length s) place 1) (good-leads n prefix (items paper n (drop place s)) (l .rest) ∙ l .leads);
     }

@@ -1,8 +1,8 @@
 -- What lookup and listing mean.
 use mathlib.Core.Path.{_≡_}
-use mathlib.Core.Bool.{Bool, true, false, not, _&&_}
+use mathlib.Core.Bool.{false}
 use mathlib.Core.List.{List, [], _∷_}
-use Prim.Native.Nat.{ℕ, zero, suc, _+_, _^_, _≤_, _<_}
+use Prim.Native.Nat.{ℕ, _-_, _^_, _≤_, _<_}
 use lib.ListN.{length, drop}
 use Rattle.parse.specs.Choice.{if}
 use Rattle.class.specs.Class.{Classes, paper}
@@ -10,16 +10,13 @@ use Rattle.compare.specs.Prefix.{begins}
 use Rattle.header.specs.declared.Header.{Header}
 use Rattle.header.specs.declared.Opened.the-variants as opened
 use Rattle.decode.specs.declared.reference.Record.{Record}
-use Rattle.decode.specs.declared.reference.Reading.the-variants as reading
 use Rattle.header.specs.Header.{headerOf}
 use Rattle.checks.specs.declared.Verdict.the-variants as verdict
-use Rattle.iter.specs.declared.step.Step.{Step}
-use Rattle.iter.specs.declared.step.Step.the-variants as step
-use Rattle.iter.specs.Items.{Item, itemOf, items, nameOf}
+use Rattle.iter.specs.Items.{Item, items, nameOf}
 use Rattle.checks.specs.Check.{checkOf}
-use Rattle.checks.specs.Passes.{isGood}
-use Rattle.iter.specs.Stands.{Named, nextPlace}
-use Rattle.iter.specs.Step.{stepOf}
+use Rattle.iter.specs.Stands.{Named}
+use Rattle.handed.specs.Run.{runOf}
+use Rattle.handed.specs.Hands.{allOf}
 use Rattle.find.specs.declared.lookup.Lookup.the-variants as lookup
 use Rattle.find.specs.declared.listing.Listing.the-variants.{From}
 use Rattle.search.specs.Search.{halve, orderAt, failureAt, placed, searchOf, probesOf}
@@ -42,27 +39,16 @@ pub record InChecked (n : ℕ) (file : List ℕ) (P : List ℕ → Type 0) : Typ
 
 -- ---- "In a checked file it lists exactly the records with the prefix, in order."
 
--- the items that steps with a prefix go through, from a place on. The number that a step is given changes only the number that an error
--- tells, so each step here is given 1
-abbrev pub stepped : Step → Item → List Item → List Item
-stepped (step.End next item) i l = []
-stepped (step.Good r next item) i l = i ∷ l
-stepped (step.Error f number text next item) i l = i ∷ l
-
-abbrev pub walk : ℕ → List ℕ → List ℕ → ℕ → ℕ → List Item
-walk n prefix s zero place = []
-walk n prefix s (suc turns) place =
-    let now = stepOf paper n prefix s place 1 in
-    stepped now (itemOf paper n (drop place s)) (walk n prefix s turns (nextPlace now))
-
 abbrev pub withPrefix : ℕ → List ℕ → List Item → List Item
 withPrefix n prefix [] = []
 withPrefix n prefix (i ∷ l) = if (begins prefix (nameOf n i)) (i ∷ withPrefix n prefix l) (withPrefix n prefix l)
 
+-- who steps on with the prefix, from the place and the number that the listing starts with, is handed those records; then the end is said
 pub record ListsExactly (n : ℕ) (s prefix : List ℕ) : Type 0 where
   pub place : ℕ
   pub start : listingOf paper n s prefix ≡ From place 1
-  pub all : walk n prefix s (suc (length s)) place ≡ withPrefix n prefix (items paper n s)
+  pub all : (turns : ℕ) → length s - place < turns
+      → runOf paper n prefix s turns place 1 ≡ allOf n (length s) place 1 (withPrefix n prefix (items paper n s))
 
 -- ---- probes: no more than the length has binary digits, that is no more than j where it is below 2 to the j
 

@@ -1,4 +1,4 @@
--- Every item is what reading at its place gives: it goes forward, begins a line and covers whole lines. Stepping goes through the items.
+-- Every item is what reading at its place gives: it goes forward, begins a line and covers whole lines.
 use mathlib.Core.Path.{_≡_, refl, sym, ap, _∙_}
 use mathlib.Core.Bool.{Bool, true, false}
 use mathlib.Core.List.{List, [], _∷_, _++_}
@@ -20,7 +20,7 @@ use Rattle.decode.specs.Record.{recordOf}
 use Rattle.probe.specs.Start.{lineStart}
 use Rattle.probe.proofs.Starts.{line-stop}
 use Rattle.iter.specs.Items.{Item, coveredBy, sizeOf, itemOf, items, bytesOf}
-use Rattle.iter.specs.Stands.{Stands, Lines, one, two, Each, nextPlace, Walks, Tiled}
+use Rattle.iter.specs.Stands.{Stands, Lines, one, two, Each, Tiled}
 use Rattle.iter.specs.Step.{stepBy, stepOf}
 use Rattle.iter.proofs.Items.{items-nil, items-step, some-item, size-le, size-some, tile}
 use Rattle.iter.proofs.Covers.{Covered, line, pair, covered}
@@ -38,7 +38,7 @@ line-feed (b ∷ t) h = go (eqb b 10) refl h (line-feed t)
         let z : suc (lineLen t) - 1 ≡ suc (lineLen t - 1) = omega (arith, lineLen-some t (omega arith)) in
         rw z (ih (omega arith))
 
-line-behind : (s : List ℕ) (p : ℕ) → p + lineLen (drop p s) < length s → lineStart s (p + lineLen (drop p s)) ≡ p + lineLen (drop p s)
+pub line-behind : (s : List ℕ) (p : ℕ) → p + lineLen (drop p s) < length s → lineStart s (p + lineLen (drop p s)) ≡ p + lineLen (drop p s)
 line-behind s p h =
     let t = drop p s in
     let l : length t ≡ length s - p = length-drop p s in
@@ -48,7 +48,7 @@ line-behind s p h =
     line-stop s (p + lineLen t) (omega arith) (rw z at e)
 
 module _ (n : ℕ) where
-  item-behind : (s : List ℕ) (p : ℕ) → p + sizeOf paper n (drop p s) < length s
+  pub item-behind : (s : List ℕ) (p : ℕ) → p + sizeOf paper n (drop p s) < length s
       → lineStart s (p + sizeOf paper n (drop p s)) ≡ p + sizeOf paper n (drop p s)
   item-behind s p h = go (covered n (drop p s))
     where
@@ -110,28 +110,6 @@ module _ (n : ℕ) where
   each s place it h =
       let z : 0 + length (bytesOf (h .before)) ≡ place = omega (arith, h .here) in
       rw z at (each-from (h .before) it (h .after) s 0 (λ l. refl) (h .all))
-
--- ---- stepping
-
-next-place : (byte : Classes) (n : ℕ) (s : List ℕ) (place item : ℕ) → place < length s
-    → nextPlace (stepOf byte n [] s place item) ≡ place + sizeOf byte n (drop place s)
-unfolding stepOf sizeOf
-next-place byte n s place item h = rw (lt-ltb place (length s) h) (go (recordOf byte n (drop place s)))
-  where
-    go : (w : Reading) → nextPlace (stepBy n [] s place item w) ≡ place + coveredBy w (lineLen (drop place s))
-    go (Good r) = refl
-    go (Bad f) = refl
-
-pub walks : (byte : Classes) (n : ℕ) (s : List ℕ) (place item : ℕ) → Walks byte n s place item
-walks byte n s place item =
-    let l : length (drop place s) ≡ length s - place = length-drop place s in
-    record {
-      on =
-          λ h. items-step byte n (drop place s) (omega arith)
-          ∙ rw (drop-drop (sizeOf byte n (drop place s)) place s, next-place byte n s place item h);
-      forward = λ h. omega (arith, next-place byte n s place item h, size-some byte n (drop place s) (omega arith));
-      ends = λ h. rw (drop-of-length-le s h, items-nil byte n);
-    }
 
 pub tiled : (byte : Classes) (n : ℕ) (s : List ℕ) → Tiled byte n s
 tiled byte n s = record { all = tile byte n s }

@@ -4,4 +4,3 @@ pub mod ItemRead
 pub mod Items
 pub mod Steps
 pub mod Turns
-pub mod Within

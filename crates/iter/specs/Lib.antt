@@ -1,4 +1,3 @@
-pub mod Handed
 pub mod Items
 pub mod Stands
 pub mod Step

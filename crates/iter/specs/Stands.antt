@@ -10,10 +10,7 @@ use Rattle.decode.specs.declared.reference.Record.{Record}
 use Rattle.decode.specs.declared.reference.Reading.the-variants as reading
 use Rattle.decode.specs.declared.reference.Reading.the-variants.{Bad}
 use Rattle.probe.specs.Start.{lineStart}
-use Rattle.iter.specs.declared.step.Step.{Step}
-use Rattle.iter.specs.declared.step.Step.the-variants.{End, Good, Error}
 use Rattle.iter.specs.Items.{Item, itemOf, items, nameOf, bytesOf}
-use Rattle.iter.specs.Step.{stepOf}
 
 -- "Without a prefix every byte behind the header lies in exactly one item": the items' bytes, one after another, are all the bytes
 pub record Tiled (byte : Classes) (n : ℕ) (s : List ℕ) : Type 0 where
@@ -47,15 +44,3 @@ pub record Each (n : ℕ) (s : List ℕ) (place : ℕ) (it : Item) : Type 0 wher
   pub start : lineStart s place ≡ place
   pub lines : Lines (drop place s) (it .bytes)
   pub error : (f : Fault) → it .what ≡ Bad f → it .bytes ≡ take (lineLen (drop place s)) (drop place s)
-
-abbrev pub nextPlace : Step → ℕ
-nextPlace (End next item) = next
-nextPlace (Good r next item) = next
-nextPlace (Error f number text next item) = next
-
--- stepping from a place on goes through the items of the bytes from there on, one by one, and ends where they end
-pub record Walks (byte : Classes) (n : ℕ) (s : List ℕ) (place item : ℕ) : Type 0 where
-  pub on : place < length s
-      → items byte n (drop place s) ≡ itemOf byte n (drop place s) ∷ items byte n (drop (nextPlace (stepOf byte n [] s place item)) s)
-  pub forward : place < length s → place < nextPlace (stepOf byte n [] s place item)
-  pub ends : length s ≤ place → items byte n (drop place s) ≡ []

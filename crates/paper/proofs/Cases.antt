@@ -10,7 +10,9 @@ use Rattle.header.specs.Header.{headerOf}
 use Rattle.decode.specs.Record.{recordOf}
 use Rattle.probe.specs.Shape.{shapeOf}
 use Rattle.probe.specs.Start.{recordStart}
-use Rattle.iter.specs.Step.{more}
+use Rattle.start.specs.Start.{firstItem, startOf}
+use Rattle.iter.specs.Step.{more, stepOf}
+use Rattle.handed.specs.Run.{runOf, readOf}
 use Rattle.iter.specs.Items.{sizeOf, itemsBehind, items}
 use Rattle.checks.specs.Check.{judgeBody, checkOf, checkAnswer}
 use Rattle.search.specs.Search.{probedOf, halve, searchOf}
@@ -20,7 +22,7 @@ use Rattle.loose.specs.Loose.{symbolicOf, looseOf, looseAnswer}
 use Rattle.paper.specs.Cases.{EveryCase}
 
 pub every-case : EveryCase
-unfolding isHex isForbidden isLineEnd byteAt idAt eol newlineAt textAt headerOf recordOf shapeOf recordStart more sizeOf itemsBehind items
+unfolding isHex isForbidden isLineEnd byteAt idAt eol newlineAt textAt headerOf recordOf shapeOf recordStart firstItem startOf more stepOf runOf readOf sizeOf itemsBehind items
     noComponentBeginsWithDot noLockAtTheEnd hasSlash noDotDot noForbiddenByte slashesApart noDotAtTheEnd noAtBrace notTheLoneAt validName
     judgeBody checkOf checkAnswer probedOf halve searchOf lookupOf lookupAnswer lengthAt symbolicOf looseOf looseAnswer admission digitsOf overLimit
 every-case = refl

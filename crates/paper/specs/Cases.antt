@@ -9,8 +9,8 @@ use Rattle.checks.specs.Check.{checkAnswer, checkNumber}
 use Rattle.checks.specs.declared.CheckAnswer.{CheckAnswer}
 use Rattle.checks.specs.declared.CheckAnswer.the-variants as checked
 use Rattle.checks.specs.declared.Verdict.the-variants.{Clean, BadHeader, BadRecord, Unsorted}
-use Rattle.iter.specs.Handed.{Handed, good, error, handed}
-use Rattle.iter.specs.Items.{items}
+use Rattle.handed.specs.Handed.{Handed, good, error, whats}
+use Rattle.handed.specs.Run.{readOf, outOf}
 use Rattle.find.specs.Lookup.{lookupAnswer, lookupNumber}
 use Rattle.change.specs.declared.Length.{Length}
 use Rattle.change.specs.declared.Length.the-variants.{Of, Malformed}
@@ -23,7 +23,7 @@ use Rattle.loose.specs.Loose.{looseAnswer, looseNumber}
 -- ---- what is asked, and what comes of it
 
 pub data Question : Type 0 where
-  -- which items the bytes have, which records and errors they hand out
+  -- which records and errors are handed to a caller who steps from the start to the end
   iterate : List ℕ → Question
   check : List ℕ → Question
   lookup : (bytes name : List ℕ) → Question
@@ -62,7 +62,7 @@ looseOutcome content loosely.TooLarge = number (looseNumber loosely.TooLarge)
 
 -- by the definitions
 abbrev pub answered : Question → Outcome
-answered (iterate bytes) = gives (handed 40 1 (items paper 40 bytes))
+answered (iterate bytes) = gives (whats (outOf (readOf paper 40 bytes)))
 answered (check bytes) = checkOutcome (checkAnswer 1 bytes)
 answered (lookup bytes name) = number (lookupNumber (lookupAnswer 1 bytes name))
 answered (nameLength bytes) = lengthOutcome (lengthAt bytes 0)

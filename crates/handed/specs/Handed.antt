@@ -1,0 +1,51 @@
+-- What a step hands out: a record by its id, its name and its peeled id, an error by its number and its text; each with its place.
+use mathlib.Core.List.{List, [], _∷_}
+use Prim.Native.Nat.{ℕ, zero, suc, _+_, _-_}
+use lib.ListN.{length, take, drop}
+use Rattle.decode.specs.declared.reference.Record.{Record}
+use Rattle.decode.specs.declared.reference.Reading.{Reading}
+use Rattle.decode.specs.declared.reference.Reading.the-variants.{Good, Bad}
+use Rattle.iter.specs.Items.{Item}
+use Rattle.iter.specs.Step.{more}
+
+pub data Handed : Type 0 where
+  good : (id name : List ℕ) → Handed
+  peeled : (id name peeledId : List ℕ) → Handed
+  error : (number : ℕ) (text : List ℕ) → Handed
+
+-- something that was handed out, the place that the step was taken from, and the next place that it told
+pub record Given : Type 0 where
+  pub place : ℕ
+  pub next : ℕ
+  pub what : Handed
+
+abbrev pub given : ℕ → ℕ → Handed → Given
+given place next what = record { place = place; next = next; what = what }
+
+-- ---- a record's parts, where its bytes begin: the id stands first, the name behind it and one byte. Where there is a peeled id, it
+-- stands at a place that is not 0
+
+abbrev pub partsBy : ℕ → List ℕ → List ℕ → ℕ → Handed
+partsBy n bytes name zero = good (take n bytes) name
+partsBy n bytes name (suc at) = peeled (take n bytes) name (take n (drop (suc at) bytes))
+
+abbrev pub partsOf : ℕ → List ℕ → Record → Handed
+partsOf n bytes r = partsBy n bytes (take (r .name) (drop (n + 1) bytes)) (r .object)
+
+-- ---- the items of a body, handed out one after another: the first stands at a place and has a number
+
+-- "It gives the number and the covered bytes less the last one"
+abbrev pub handedBy : ℕ → ℕ → List ℕ → Reading → Handed
+handedBy n number bytes (Good r) = partsOf n bytes r
+handedBy n number bytes (Bad f) = error number (take (length bytes - 1) bytes)
+
+abbrev pub handed : ℕ → ℕ → ℕ → List Item → List Given
+handed n place number [] = []
+handed n place number (i ∷ l) =
+    given place (place + length (i .bytes)) (handedBy n number (i .bytes) (i .what))
+    ∷ handed n (place + length (i .bytes)) (more number) l
+
+-- without the places
+abbrev pub whats : List Given → List Handed
+whats [] = []
+whats (g ∷ l) = g .what ∷ whats l

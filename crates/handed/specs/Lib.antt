@@ -1,0 +1,4 @@
+pub mod Handed
+pub mod Run
+pub mod Lines
+pub mod Hands

@@ -1,0 +1,56 @@
+-- What a caller is handed who steps until the end. Nothing is used here but what the start and the steps answer.
+use mathlib.Core.List.{List, [], _∷_}
+use Prim.Native.Nat.{ℕ, zero, suc}
+use lib.ListN.{length, take, drop}
+use Rattle.class.specs.Class.{Classes}
+use Rattle.start.specs.declared.Start.{Start}
+use Rattle.start.specs.declared.Start.the-variants.{At, BadHeader}
+use Rattle.start.specs.Start.{startOf}
+use Rattle.iter.specs.declared.step.Step.{Step}
+use Rattle.iter.specs.declared.step.Step.the-variants.{End, Good, Error}
+use Rattle.iter.specs.Step.{stepOf}
+use Rattle.handed.specs.Handed.{Given, given, error, partsOf}
+
+-- how it came to its end: a step said so, with the next place and the number that it gave; or the caller made no further step
+pub data Stop : Type 0 where
+  ended : (place number : ℕ) → Stop
+  unfinished : Stop
+
+pub record Run : Type 0 where
+  pub out : List Given
+  pub stop : Stop
+
+abbrev pub onto : Given → Run → Run
+onto g r = record { out = g ∷ r .out; stop = r .stop }
+
+-- ---- so many steps at most, from a place with a number, over the bytes s with a prefix: each goes on with the place and the number that the one
+-- before it told. A record is told by places counted from the step's own, and an error's text begins there
+
+module _ (byte : Classes) (n : ℕ) (prefix s : List ℕ) where
+  unfoldable pub runOf : ℕ → ℕ → ℕ → Run
+  runOf zero place number = record { out = []; stop = unfinished }
+  runOf (suc turns) place number =
+      elim (stepOf byte n prefix s place number) [
+        | End next last ↦ record { out = []; stop = ended next last }
+        | Good r next following ↦ onto (given place next (partsOf n (drop place s) r)) (runOf turns next following)
+        | Error f told text next following ↦ onto (given place next (error told (take text (drop place s)))) (runOf turns next following)
+      ]
+
+-- ---- a whole file: lent to the start, and from where that says stepped through until the end. An end takes a step, too
+
+pub data Read : Type 0 where
+  -- the header can't be read: number 2, and the length of its text
+  refused : (text : ℕ) → Read
+  read : Run → Read
+
+abbrev pub readFrom : Classes → ℕ → List ℕ → Start → Read
+readFrom byte n file (At place number) = read (runOf byte n [] file (suc (length file)) place number)
+readFrom byte n file (BadHeader text) = refused text
+
+unfoldable pub readOf : Classes → ℕ → List ℕ → Read
+readOf byte n file = readFrom byte n file (startOf byte file)
+
+-- all that is handed out
+abbrev pub outOf : Read → List Given
+outOf (refused text) = []
+outOf (read r) = r .out
