@@ -6,9 +6,14 @@ use Rattle.iter.specs.declared.step.Step.the-variants.{End, Good, Error}
 use Rattle.iter.specs.declared.step.StepAnswer.{StepAnswer}
 use Rattle.iter.specs.declared.step.StepAnswer.the-variants.{Done, UnknownKind, TooLarge}
 use Rattle.iter.specs.Step.{stepAnswer}
-use Rattle.iter.specs.Stands.{nextPlace}
 use Rattle.iterator.specs.declared.Iter.{Iter}
 use Rattle.iterator.specs.declared.Stepped.{Stepped}
+
+-- "returns the next of both": a step's next place and its next item number
+abbrev pub nextPlace : Step → ℕ
+nextPlace (End next item) = next
+nextPlace (Good r next item) = next
+nextPlace (Error f number text next item) = next
 
 abbrev pub nextItem : Step → ℕ
 nextItem (End next item) = item
@@ -19,7 +24,7 @@ nextItem (Error f number text next item) = item
 abbrev pub answerOf : Iter → StepAnswer
 answerOf it = stepAnswer (it .kind) (now (it .prefix)) (now (it .s)) (it .place) (it .item)
 
--- "returns the next of both": the answer's next place and next number; a refusal leaves both as they came
+-- where an answer leaves an iteration that stood at a place with a number: a refusal leaves both as they came
 abbrev pub placeAfter : ℕ → StepAnswer → ℕ
 placeAfter place (Done r) = nextPlace r
 placeAfter place UnknownKind = place
