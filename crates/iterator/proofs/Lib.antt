@@ -1,1 +1,3 @@
+pub mod Fields
+pub mod Lent
 pub mod Run

@@ -56,6 +56,7 @@ use Rattle.iterator.proofs.Stepped as P
 use Rattle.iterator.proofs.Stepped.Laws as P′
 use Rattle.iter.proofs.step.StepAnswer as S
 use Rattle.iter.proofs.step.StepAnswer.Laws as S′
+use Rattle.iterator.proofs.Fields.{passed, values, Own, Owns, apart}
 use Rattle.iterator.proofs.step as step
 use Rattle.iterator.proofs.step.Symbol as step-def
 use Rattle.iterator.proofs.step.Symbol.{name as #iterator·step}
@@ -77,7 +78,7 @@ abbrev Stepping : {M : Type 1} (𝓤 : URA M) (H : Heap 𝓤) (A : Atoms 𝓤) (
 Stepping 𝓤 H A mem run = tripleOf 𝓤 H A step.signature (step.spec 𝓤 H A mem run)
 
 module _ {M : Type 1} (𝓤 : URA M) (H : Heap 𝓤) (A : Atoms 𝓤) (W : Given 𝓤 H A) (at-mem : Memory → SProp 𝓤) (run : Routine → Fun 𝓤) (κ κ′ : Lft) (q q′ : Share) (bounds : AllOutlive 2 (next.signature .outlives) (κ, (κ′, tt))) (b o : ℕ) (γ : GName) (h : Iter) where
-  -- 'a, the struct's type at it, its laws, and the fields' values
+  -- 'a, and the struct's type and laws at it
   abbrev α : NamedLft
   α = record { mir = named 1; lft = κ′ }
 
@@ -89,12 +90,6 @@ module _ {M : Type 1} (𝓤 : URA M) (H : Heap 𝓤) (A : Atoms 𝓤) (W : Given
 
   abbrev B : RattleType
   B = T.the-row α
-
-  abbrev vh : Values (D .parts)
-  vh = (h .kind, (h .s, (h .prefix, (h .place, (h .item, tt)))))
-
-  abbrev Own : Iter → Fml
-  Own d = B .own d (T′.lowered d ∷ [])
 
   abbrev a : RefT Iter × Unit {0}
   a = (record { ptr = (b, o); name = γ; now = h }, tt)
@@ -110,29 +105,25 @@ module _ {M : Type 1} (𝓤 : URA M) (H : Heap 𝓤) (A : Atoms 𝓤) (W : Given
   after t = record { kind = h .kind; s = h .s; prefix = h .prefix; place = t .place; item = t .item }
 
   -- what the fields that stay own is kept, and the facts of the place and of the number are made anew
-  again : (t : Stepped) → t .place < 2 ^ 64 → t .item < 2 ^ 64 → ent 𝓤 (sem 𝓤 H A (Own h)) (sem 𝓤 H A (Own (after t)))
+  again : (t : Stepped) → t .place < 2 ^ 64 → t .item < 2 ^ 64 → ent 𝓤 (sem 𝓤 H A (Own h α)) (sem 𝓤 H A (Own (after t) α))
   again t fits fits′ =
-      qed W (‵ (Own h) ∷ []) ∵ owned ! usize (Is usize) (uint-makes 𝓤 H A W w64) (t .place) _ (refl, fits) $ move ! (1 ∷ 0 ∷ []) $
-      use2 W (‵ (Own (record { kind = h .kind; s = h .s; prefix = h .prefix; place = t .place; item = h .item }))) (own-put 𝓤 H A W D L 3 vh (t .place) (T′.lowered h)) $
-      owned ! u64 (Is u64) (uint-makes 𝓤 H A W w64) (t .item) _ (refl, fits′) $ move ! (1 ∷ 0 ∷ []) $
-      by ! (own-put 𝓤 H A W D L 4 (h .kind, (h .s, (h .prefix, (t .place, (h .item, tt))))) (t .item) (T′.lowered (record { kind = h .kind; s = h .s; prefix = h .prefix; place = t .place; item = h .item })))
+      let placed : Iter = record { kind = h .kind; s = h .s; prefix = h .prefix; place = t .place; item = h .item } in
+      qed W (‵ (Own h α) ∷ []) ∵ owned ! usize (Is usize) (uint-makes 𝓤 H A W w64) (t .place) _ (refl, fits) $ move ! (1 ∷ 0 ∷ []) $ use2 W (‵ (Own placed α)) (own-put 𝓤 H A W D L 3 (values h α) (t .place) (T′.lowered h)) $
+      owned ! u64 (Is u64) (uint-makes 𝓤 H A W w64) (t .item) _ (refl, fits′) $ move ! (1 ∷ 0 ∷ []) $ by ! (own-put 𝓤 H A W D L 4 (values placed α) (t .item) (T′.lowered placed))
 
-  -- what the callee is passed
-  abbrev passed : Vals step.signature (κ′, tt)
-  passed = (vint w32 (h .kind) ∷ [], (sliceVal (h .s .ptr) (length (h .s .now)) ∷ [], (sliceVal (h .prefix .ptr) (length (h .prefix .now)) ∷ [], (vint w64 (h .place) ∷ [], (vint w64 (h .item) ∷ [], tt)))))
-
+  -- the call
   abbrev to : Stepping 𝓤 H A at-mem run .Ghost
-  to = (((κ′, tt), (q′, tt), tt, vh, passed), tt)
+  to = (((κ′, tt), (q′, tt), tt, values h α, passed h), tt)
 
-  asked : ent 𝓤 (onEntry 𝓤 H A step.signature (κ′, tt) (q′, tt) vh passed) (Stepping 𝓤 H A at-mem run .pre to)
-  asked = qed W ((‵ (flft κ′ q′) ⊛ ‵ ftrue) ∷ ‵ (owns (u32 ∷ ShrSlice (named 0) κ′ u8 ∷ ShrSlice (named 0) κ′ u8 ∷ usize ∷ u64 ∷ []) vh passed) ∷ []) ∵ join ! $ frame ! $ done !
+  asked : ent 𝓤 (onEntry 𝓤 H A step.signature (κ′, tt) (q′, tt) (values h α) (passed h)) (Stepping 𝓤 H A at-mem run .pre to)
+  asked = qed W ((‵ (flft κ′ q′) ⊛ ‵ ftrue) ∷ ‵ (Owns h α) ∷ []) ∵ join ! $ frame ! $ done !
 
   -- of the callee's `ensured`, the clause alone: it has no `&mut`, so what is said of last values is dropped
   abbrev found : Stepped
   found = steppedFrom (h .place) (h .item) (answerOf h)
 
-  said : (t : Stepped) → ent 𝓤 (ensured 𝓤 H A step.ended (step.clauses 𝓤 H A at-mem run) (κ′, tt) vh tt t) (fact 𝓤 (t ≡ found))
-  said t = exE 𝓤 _ (λ ws. snd∗ 𝓤 (sem 𝓤 H A (lasts step.ended (κ′, tt) vh ws)) (fact 𝓤 (t ≡ found)))
+  said : (t : Stepped) → ent 𝓤 (ensured 𝓤 H A step.ended (step.clauses 𝓤 H A at-mem run) (κ′, tt) (values h α) tt t) (fact 𝓤 (t ≡ found))
+  said t = exE 𝓤 _ (λ ws. snd∗ 𝓤 (sem 𝓤 H A (lasts step.ended (κ′, tt) (values h α) ws)) (fact 𝓤 (t ≡ found)))
 
   exits : (t : Stepped) (u : Val) → t ≡ found → ent 𝓤 (⋆ 𝓤 H A (‵ (fobs γ (B .coded .code (after t))) ∷ ‵ (fbor κ (Body (mem B) b o γ)) ∷ ‵ (flft κ q) ∷ ‵ (S.the-row .own (t .answer) (u ∷ [])) ∷ (‵ (flft κ′ q′) ⊛ ‵ ftrue) ∷ [])) (Post u)
   exits t u e =
@@ -157,11 +148,10 @@ module _ {M : Type 1} (𝓤 : URA M) (H : Heap 𝓤) (A : Atoms 𝓤) (W : Given
         assigns ! (of-opd ! (load ! (from ! (hop ! (look ! 19 refl) (fld ! refl (stop !)))) (look-in ! 0 (sub ! 3 refl (whole !))))) (from ! (stop !)) (init ! 9 refl (tt, wt .1 .1 .1 .1 .0)) $
         assigns ! (of-opd ! (load ! (from ! (hop ! (look ! 19 refl) (fld ! refl (stop !)))) (look-in ! 0 (sub ! 4 refl (whole !))))) (from ! (stop !)) (init ! 7 refl (tt, wt .1 .1 .1 .1 .1 .0)) $
         -- one copy of what the struct owns goes to the callee
-        move ! (1 ∷ []) $ use1 W (‵ (Own h) ⊛ ‵ (Own h)) (LL.copy D (T′.the-copy α) 𝓤 H A W .twice h (T′.lowered h ∷ [])) $ split ! $
-        use1 W (given (T′.lowered h ∷ [] ≡ T′.lowered h ∷ []) (‵ (all-own (D .parts) L vh))) (own-open 𝓤 H A W D L vh (T′.lowered h)) $ learn ! (λ _.
+        move ! (1 ∷ []) $ use1 W (‵ (Owns h α) ⊛ ‵ (Own h α)) (apart h α 𝓤 H A W) $ split ! $
         move ! (6 ∷ 0 ∷ []) $ use2 W (raw (Stepping 𝓤 H A at-mem run .pre to)) asked $
         calls-at ! fm (Stepping 𝓤 H A at-mem run) known to (and-then ! (load ! (from ! (stop !)) (look ! 15 refl)) (and-then ! (load ! (from ! (stop !)) (look ! 13 refl)) (and-then ! (load ! (from ! (stop !)) (look ! 11 refl)) (and-then ! (load ! (from ! (stop !)) (look ! 9 refl)) (and-then ! (load ! (from ! (stop !)) (look ! 7 refl)) (no-more !)))))) (λ w.
-        use1 W (later (some (λ (t : Stepped). ((‵ (flft κ′ q′) ⊛ ‵ ftrue) ⊛ ‵ (P.the-row .own t (w ∷ []))) ⊛ raw (ensured 𝓤 H A step.ended (step.clauses 𝓤 H A at-mem run) (κ′, tt) vh tt t)))) (id⊢ 𝓤 _) $ await ! tt $ pick ! (λ t.
+        use1 W (later (some (λ (t : Stepped). ((‵ (flft κ′ q′) ⊛ ‵ ftrue) ⊛ ‵ (P.the-row .own t (w ∷ []))) ⊛ raw (ensured 𝓤 H A step.ended (step.clauses 𝓤 H A at-mem run) (κ′, tt) (values h α) tt t)))) (id⊢ 𝓤 _) $ await ! tt $ pick ! (λ t.
         split ! $ move ! (1 ∷ []) $ use1 W (raw (fact 𝓤 (t ≡ found))) (said t) $ heard ! (t ≡ found) (λ e. split ! $ move ! (1 ∷ []) $
         -- [the result; the token; what an Iter owns; the struct's cell; the open borrow; obs; auth; …; _7; …; _6; …; _5; …; _4; …; _3; …; _2; …; _1; …; room for _0; …]
         peeks ! P.the-row (Is P.the-row) (shows 𝓤 H A P.the-row) t (w ∷ []) (λ is. land ! (from ! (stop !)) (init ! 18 refl (LL.lawful P.the-type P′.the-laws 𝓤 H A W .typed t _ is .0)) $
@@ -173,13 +163,13 @@ module _ {M : Type 1} (𝓤 : URA M) (H : Heap 𝓤) (A : Atoms 𝓤) (W : Given
         assigns ! (of-opd ! (load ! (from ! (fld ! refl (stop !))) (look-in ! 18 (sub ! 2 refl (whole !))))) (from ! (hop ! (look ! 20 refl) (fld ! refl (stop !)))) (store-in ! 3 (sub ! 4 refl (whole !)) (tt, record { fits = fits .1 .1 .0 .1 })) $
         assigns ! (of-opd ! (load ! (from ! (fld ! refl (stop !))) (look-in ! 18 (sub ! 0 refl (whole !))))) (from ! (stop !)) (init ! 22 refl (EL.lawful S.the-type S′.the-laws 𝓤 H A W tt .typed (t .answer) _ answers .0)) $
         -- the borrow is closed at the record with the new place and number
-        move ! (2 ∷ []) $ use1 W (‵ (Own (after t))) (again t (fits .1 .0 .1) (fits .1 .1 .0 .1)) $
+        move ! (2 ∷ []) $ use1 W (‵ (Own (after t) α)) (again t (fits .1 .0 .1) (fits .1 .1 .0 .1)) $
         move ! (3 ∷ []) $ use1 W (‵ (cellAt fullShare (B .mir) (T′.lowered (after t) ∷ []) b o)) (W .laws .at-raw fullShare (T′.mir erased) b o (T′.lowered (after t))) $
         move ! (0 ∷ 1 ∷ 4 ∷ 5 ∷ 6 ∷ []) $ closes ! tt B (after t) (T′.lowered (after t) ∷ []) b o $
         -- [obs; the borrow; the token of 's; what the answer owns; the token of 'a; …; _7; …; _6; …; _5; …; _4; …; _3; …; _2; …; _1; …; _0; …]
         returns ! (look ! 20 refl) $ forget ! 6 refl $ forget ! 8 refl $ forget ! 10 refl $ forget ! 12 refl $ forget ! 14 refl $ forget ! 16 refl $ forget ! 18 refl $ forget ! 20 refl $
         move ! (20 ∷ 21 ∷ []) $ free1 ! $ move ! (18 ∷ 19 ∷ []) $ free1 ! $ move ! (16 ∷ 17 ∷ []) $ free1 ! $ move ! (14 ∷ 15 ∷ []) $ free1 ! $ move ! (12 ∷ 13 ∷ []) $ free1 ! $ move ! (10 ∷ 11 ∷ []) $ free1 ! $ move ! (8 ∷ 9 ∷ []) $ free1 ! $ move ! (6 ∷ 7 ∷ []) $ free1 ! $ free0 ! $
-        keep ! (0 ∷ 1 ∷ 2 ∷ 3 ∷ 4 ∷ []) $ by ! (exits t _ e))))))))))))))))))
+        keep ! (0 ∷ 1 ∷ 2 ∷ 3 ∷ 4 ∷ []) $ by ! (exits t _ e)))))))))))))))))
 
 module _ {M : Type 1} (𝓤 : URA M) (H : Heap 𝓤) (A : Atoms 𝓤) (W : Given 𝓤 H A) (mem : Memory → SProp 𝓤) (run : Routine → Fun 𝓤) where
   next-walks : (C : Calls 𝓤 H) (Λ : Loops 𝓤 H) → FmC 𝓤 H (W .laws) C → Triple 𝓤 (C #iterator·step) (Stepping 𝓤 H A mem run) → Walks 𝓤 H A next.ended stayed (WpFn 𝓤 H C Λ code.function) (next.clauses 𝓤 H A mem run)
