@@ -45,8 +45,21 @@ pub fn next<'s, 'a>(it: &'s mut Iter<'a>) -> StepAnswer
     to.answer
 }
 
-// The same step from plain parameters: whoever calls it needs no proof by hand.
-pub fn step<'a>(kind: u32, s: &'a [u8], prefix: &'a [u8], place: usize, item: u64) -> Stepped
+// A step from plain parameters, by an iteration that is made here, and where it leaves that iteration: whoever calls it needs no proof by hand.
+pub fn first<'a>(kind: u32, s: &'a [u8], prefix: &'a [u8], place: usize, item: u64) -> Stepped
+    ensures { λ r. ⌜ r ≡ steppedFrom place item (stepAnswer kind (now (prefix .entry)) (now (s .entry)) place item) ⌝ }
+{
+    let mut it = new(kind, s, prefix, place, item);
+    let answer = next(&mut it);
+    Stepped {
+        answer,
+        place: it.place,
+        item: it.item,
+    }
+}
+
+// The plain step, and where it leaves the iteration.
+pub(crate) fn step<'a>(kind: u32, s: &'a [u8], prefix: &'a [u8], place: usize, item: u64) -> Stepped
     ensures { λ r. ⌜ r ≡ steppedFrom place item (stepAnswer kind (now (prefix .entry)) (now (s .entry)) place item) ⌝ }
 {
     goes_on(
