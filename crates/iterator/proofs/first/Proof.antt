@@ -54,7 +54,7 @@ use Rattle.iterator.proofs.Stepped as P
 use Rattle.iterator.proofs.Stepped.Laws as P′
 use Rattle.iter.proofs.step.StepAnswer as S
 use Rattle.iter.proofs.step.StepAnswer.Laws as S′
-use Rattle.iterator.proofs.Fields.{passed, machine, values, Own, Owns, apart, together}
+use Rattle.iterator.proofs.Fields.{passed, machine, values, Own, Owns, apart, together, fits}
 use Rattle.iterator.proofs.Lent.{short, Lies, Borrowed, Kept, lends, comes-back}
 use Rattle.iterator.proofs.new as new
 use Rattle.iterator.proofs.new.Symbol as new-def
@@ -88,14 +88,17 @@ module _ {M : Type 1} (𝓤 : URA M) (H : Heap 𝓤) (A : Atoms 𝓤) (W : Given
   abbrev αᵉ : NamedLft
   αᵉ = record { mir = erased; lft = κ }
 
+  abbrev αⁿ : NamedLft
+  αⁿ = record { mir = named 1; lft = κ }
+
   abbrev B : RattleType
-  B = T.the-row (record { mir = named 1; lft = κ })
+  B = T.the-row αⁿ
 
   abbrev D : Declared
-  D = T.the-type (record { mir = named 1; lft = κ })
+  D = T.the-type αⁿ
 
   abbrev L : LL.Laws D
-  L = T′.the-laws (record { mir = named 1; lft = κ })
+  L = T′.the-laws αⁿ
 
   abbrev Post : Val → SProp 𝓤
   Post = walkOf 𝓤 H A first.ended stayed (first.clauses 𝓤 H A mem run) .post (((κ, tt), (q, tt), tt, values d α, passed d), tt)
@@ -163,12 +166,12 @@ module _ {M : Type 1} (𝓤 : URA M) (H : Heap 𝓤) (A : Atoms 𝓤) (W : Given
         -- the local comes back
         move ! (6 ∷ 4 ∷ []) $ join ! $ move ! (2 ∷ 3 ∷ 0 ∷ []) $ use3 W (later (some (λ (vs : List Val). ‵ (Lies B κ q l₆ 0 (zs .0) vs)) ⊛ ‵ (flft κ q))) (comes-back B κ q l₆ 0 𝓤 H A W (x .0) (x .1) (zs .0)) $ await ! tt $ split ! $ pick ! (λ vs. fsplit ! $
         spelt ! B (Is B) (shows 𝓤 H A B) (LL.vals D L) (LL.tells D L) fullShare (zs .0) vs l₆ 0 $ use1 W (‵ (fat fullShare (T′.mir erased) l₆ 0 (T′.lowered (zs .0)))) (W .laws .raw-at fullShare (T′.mir erased) l₆ 0 (T′.lowered (zs .0))) $
-        move ! (1 ∷ []) $ peeks ! B (Is B) (shows 𝓤 H A B) (zs .0) (T′.lowered (zs .0) ∷ []) (λ was. drop ! $ let fits = LL.owed D L (zs .0) _ was in
+        move ! (1 ∷ []) $ peeks ! B (Is B) (shows 𝓤 H A B) (zs .0) (T′.lowered (zs .0) ∷ []) (λ was. drop ! $
         -- [_6; the token; the answer; …; …; …; what the parameters own; _11; …; _10; …; _9; …; _8; …; _7; …; …; _5; …; _4; …; _3; …; _2; …; _1; …; room for _0; …]
-        assigns ! (of-opd ! (load ! (from ! (fld ! refl (stop !))) (look-in ! 0 (sub ! 3 refl (whole !))))) (from ! (stop !)) (init ! 9 refl (tt, record { fits = fits .1 .1 .1 .0 .1 })) $
-        assigns ! (of-opd ! (load ! (from ! (fld ! refl (stop !))) (look-in ! 0 (sub ! 4 refl (whole !))))) (from ! (stop !)) (init ! 7 refl (tt, record { fits = fits .1 .1 .1 .1 .0 .1 })) $
+        assigns ! (of-opd ! (load ! (from ! (fld ! refl (stop !))) (look-in ! 0 (sub ! 3 refl (whole !))))) (from ! (stop !)) (init ! 9 refl (tt, record { fits = fits (zs .0) αⁿ was .0 })) $
+        assigns ! (of-opd ! (load ! (from ! (fld ! refl (stop !))) (look-in ! 0 (sub ! 4 refl (whole !))))) (from ! (stop !)) (init ! 7 refl (tt, record { fits = fits (zs .0) αⁿ was .1 })) $
         -- what the result owns
-        move ! (2 ∷ []) $ nothing ! $ owned ! u64 (Is u64) (uint-makes 𝓤 H A W w64) (zs .0 .item) _ (refl, fits .1 .1 .1 .1 .0 .1) $ fjoin ! $ owned ! usize (Is usize) (uint-makes 𝓤 H A W w64) (zs .0 .place) _ (refl, fits .1 .1 .1 .0 .1) $ fjoin ! $ move ! (1 ∷ 0 ∷ []) $ fjoin ! $
+        move ! (2 ∷ []) $ nothing ! $ owned ! u64 (Is u64) (uint-makes 𝓤 H A W w64) (zs .0 .item) _ (refl, fits (zs .0) αⁿ was .1) $ fjoin ! $ owned ! usize (Is usize) (uint-makes 𝓤 H A W w64) (zs .0 .place) _ (refl, fits (zs .0) αⁿ was .0) $ fjoin ! $ move ! (1 ∷ 0 ∷ []) $ fjoin ! $
         use1 W (‵ (P.the-row .own (told t (zs .0)) (LL.val P.the-type P′.the-laws (told t (zs .0)) ∷ []))) (own-shut 𝓤 H A W P.the-type P′.the-laws (t, (zs .0 .place, (zs .0 .item, tt)))) $
         peeks ! P.the-row (Is P.the-row) (shows 𝓤 H A P.the-row) (told t (zs .0)) (LL.val P.the-type P′.the-laws (told t (zs .0)) ∷ []) (λ is′.
         assigns ! (agg ! (and-then ! (load ! (from ! (stop !)) (look ! 15 refl)) (and-then ! (load ! (from ! (stop !)) (look ! 9 refl)) (and-then ! (load ! (from ! (stop !)) (look ! 7 refl)) (no-more !))))) (from ! (stop !)) (init ! 28 refl (LL.lawful P.the-type P′.the-laws 𝓤 H A W .typed (told t (zs .0)) _ is′ .0)) $

@@ -56,7 +56,7 @@ use Rattle.iterator.proofs.Stepped as P
 use Rattle.iterator.proofs.Stepped.Laws as P′
 use Rattle.iter.proofs.step.StepAnswer as S
 use Rattle.iter.proofs.step.StepAnswer.Laws as S′
-use Rattle.iterator.proofs.Fields.{passed, values, Own, Owns, apart}
+use Rattle.iterator.proofs.Fields.{passed, values, Own, Owns, apart, typed}
 use Rattle.iterator.proofs.step as step
 use Rattle.iterator.proofs.step.Symbol as step-def
 use Rattle.iterator.proofs.step.Symbol.{name as #iterator·step}
@@ -104,6 +104,10 @@ module _ {M : Type 1} (𝓤 : URA M) (H : Heap 𝓤) (A : Atoms 𝓤) (W : Given
   abbrev after : Stepped → Iter
   after t = record { kind = h .kind; s = h .s; prefix = h .prefix; place = t .place; item = t .item }
 
+  -- what is known of the numbers that `step` returned
+  fits : (t : Stepped) (w : Val) → Is P.the-row t (w ∷ []) → (t .place < 2 ^ 64) × (t .item < 2 ^ 64)
+  fits t w is = let f = LL.owed P.the-type P′.the-laws t (w ∷ []) is in (f .1 .0 .1, f .1 .1 .0 .1)
+
   -- what the fields that stay own is kept, and the facts of the place and of the number are made anew
   again : (t : Stepped) → t .place < 2 ^ 64 → t .item < 2 ^ 64 → ent 𝓤 (sem 𝓤 H A (Own h α)) (sem 𝓤 H A (Own (after t) α))
   again t fits fits′ =
@@ -140,13 +144,13 @@ module _ {M : Type 1} (𝓤 : URA M) (H : Heap 𝓤) (A : Atoms 𝓤) (W : Given
         move ! (17 ∷ []) $ fsplit ! $ fsplit3 ! $ drop ! $ move ! (19 ∷ []) $ split ! $ move ! (2 ∷ 3 ∷ 0 ∷ []) $
         opens ! tt B {h = h} b o (λ vs. spelt ! B (Is B) (shows 𝓤 H A B) (LL.vals D L) (LL.tells D L) fullShare h vs b o $
         use1 W (‵ (fat fullShare (T′.mir erased) b o (T′.lowered h))) (W .laws .raw-at fullShare (T′.mir erased) b o (T′.lowered h)) $
-        move ! (1 ∷ []) $ peeks ! B (Is B) (shows 𝓤 H A B) h (T′.lowered h ∷ []) (λ was. move ! (1 ∷ 0 ∷ []) $ let wt = LL.lawful D L 𝓤 H A W .typed h _ was .0 in
+        move ! (1 ∷ []) $ peeks ! B (Is B) (shows 𝓤 H A B) h (T′.lowered h ∷ []) (λ was. move ! (1 ∷ 0 ∷ []) $
         -- [the struct's cell; what an Iter owns; the open borrow; obs; auth; 'a's token; …; _7; …; _6; …; _5; …; _4; …; _3; …; _2; …; _1; …; room for _0; …]
-        assigns ! (of-opd ! (load ! (from ! (hop ! (look ! 19 refl) (fld ! refl (stop !)))) (look-in ! 0 (sub ! 0 refl (whole !))))) (from ! (stop !)) (init ! 15 refl (tt, wt .1 .0)) $
-        assigns ! (of-opd ! (load ! (from ! (hop ! (look ! 19 refl) (fld ! refl (stop !)))) (look-in ! 0 (sub ! 1 refl (whole !))))) (from ! (stop !)) (init ! 13 refl (tt, wt .1 .1 .0)) $
-        assigns ! (of-opd ! (load ! (from ! (hop ! (look ! 19 refl) (fld ! refl (stop !)))) (look-in ! 0 (sub ! 2 refl (whole !))))) (from ! (stop !)) (init ! 11 refl (tt, wt .1 .1 .1 .0)) $
-        assigns ! (of-opd ! (load ! (from ! (hop ! (look ! 19 refl) (fld ! refl (stop !)))) (look-in ! 0 (sub ! 3 refl (whole !))))) (from ! (stop !)) (init ! 9 refl (tt, wt .1 .1 .1 .1 .0)) $
-        assigns ! (of-opd ! (load ! (from ! (hop ! (look ! 19 refl) (fld ! refl (stop !)))) (look-in ! 0 (sub ! 4 refl (whole !))))) (from ! (stop !)) (init ! 7 refl (tt, wt .1 .1 .1 .1 .1 .0)) $
+        assigns ! (of-opd ! (load ! (from ! (hop ! (look ! 19 refl) (fld ! refl (stop !)))) (look-in ! 0 (sub ! 0 refl (whole !))))) (from ! (stop !)) (init ! 15 refl (tt, typed h α 𝓤 H A W was .1 .0)) $
+        assigns ! (of-opd ! (load ! (from ! (hop ! (look ! 19 refl) (fld ! refl (stop !)))) (look-in ! 0 (sub ! 1 refl (whole !))))) (from ! (stop !)) (init ! 13 refl (tt, typed h α 𝓤 H A W was .1 .1 .0)) $
+        assigns ! (of-opd ! (load ! (from ! (hop ! (look ! 19 refl) (fld ! refl (stop !)))) (look-in ! 0 (sub ! 2 refl (whole !))))) (from ! (stop !)) (init ! 11 refl (tt, typed h α 𝓤 H A W was .1 .1 .1 .0)) $
+        assigns ! (of-opd ! (load ! (from ! (hop ! (look ! 19 refl) (fld ! refl (stop !)))) (look-in ! 0 (sub ! 3 refl (whole !))))) (from ! (stop !)) (init ! 9 refl (tt, typed h α 𝓤 H A W was .1 .1 .1 .1 .0)) $
+        assigns ! (of-opd ! (load ! (from ! (hop ! (look ! 19 refl) (fld ! refl (stop !)))) (look-in ! 0 (sub ! 4 refl (whole !))))) (from ! (stop !)) (init ! 7 refl (tt, typed h α 𝓤 H A W was .1 .1 .1 .1 .1 .0)) $
         -- one copy of what the struct owns goes to the callee
         move ! (1 ∷ []) $ use1 W (‵ (Owns h α) ⊛ ‵ (Own h α)) (apart h α 𝓤 H A W) $ split ! $
         move ! (6 ∷ 0 ∷ []) $ use2 W (raw (Stepping 𝓤 H A at-mem run .pre to)) asked $
@@ -158,12 +162,12 @@ module _ {M : Type 1} (𝓤 : URA M) (H : Heap 𝓤) (A : Atoms 𝓤) (W : Given
         -- its fields' values, and of what it owns what the answer owns
         use1 W (given (w ∷ [] ≡ LL.val P.the-type P′.the-laws t ∷ []) (‵ (all-own (P.the-type .parts) P′.the-laws (t .answer, (t .place, (t .item, tt)))))) (own-open 𝓤 H A W P.the-type P′.the-laws (t .answer, (t .place, (t .item, tt))) w) $ learn ! (λ spells.
         rewrite ! 18 (λ (u : Val). ‵ (fat fullShare P′.mir l₂ 0 u)) (ap only spells) refl $ fsplit ! $ move ! (1 ∷ []) $ drop ! $
-        peeks ! S.the-row (Is S.the-row) (shows 𝓤 H A S.the-row) (t .answer) _ (λ answers. let fits = LL.owed P.the-type P′.the-laws t _ is in
-        assigns ! (of-opd ! (load ! (from ! (fld ! refl (stop !))) (look-in ! 18 (sub ! 1 refl (whole !))))) (from ! (hop ! (look ! 20 refl) (fld ! refl (stop !)))) (store-in ! 3 (sub ! 3 refl (whole !)) (tt, record { fits = fits .1 .0 .1 })) $
-        assigns ! (of-opd ! (load ! (from ! (fld ! refl (stop !))) (look-in ! 18 (sub ! 2 refl (whole !))))) (from ! (hop ! (look ! 20 refl) (fld ! refl (stop !)))) (store-in ! 3 (sub ! 4 refl (whole !)) (tt, record { fits = fits .1 .1 .0 .1 })) $
+        peeks ! S.the-row (Is S.the-row) (shows 𝓤 H A S.the-row) (t .answer) _ (λ answers.
+        assigns ! (of-opd ! (load ! (from ! (fld ! refl (stop !))) (look-in ! 18 (sub ! 1 refl (whole !))))) (from ! (hop ! (look ! 20 refl) (fld ! refl (stop !)))) (store-in ! 3 (sub ! 3 refl (whole !)) (tt, record { fits = fits t w is .0 })) $
+        assigns ! (of-opd ! (load ! (from ! (fld ! refl (stop !))) (look-in ! 18 (sub ! 2 refl (whole !))))) (from ! (hop ! (look ! 20 refl) (fld ! refl (stop !)))) (store-in ! 3 (sub ! 4 refl (whole !)) (tt, record { fits = fits t w is .1 })) $
         assigns ! (of-opd ! (load ! (from ! (fld ! refl (stop !))) (look-in ! 18 (sub ! 0 refl (whole !))))) (from ! (stop !)) (init ! 22 refl (EL.lawful S.the-type S′.the-laws 𝓤 H A W tt .typed (t .answer) _ answers .0)) $
         -- the borrow is closed at the record with the new place and number
-        move ! (2 ∷ []) $ use1 W (‵ (Own (after t) α)) (again t (fits .1 .0 .1) (fits .1 .1 .0 .1)) $
+        move ! (2 ∷ []) $ use1 W (‵ (Own (after t) α)) (again t (fits t w is .0) (fits t w is .1)) $
         move ! (3 ∷ []) $ use1 W (‵ (cellAt fullShare (B .mir) (T′.lowered (after t) ∷ []) b o)) (W .laws .at-raw fullShare (T′.mir erased) b o (T′.lowered (after t))) $
         move ! (0 ∷ 1 ∷ 4 ∷ 5 ∷ 6 ∷ []) $ closes ! tt B (after t) (T′.lowered (after t) ∷ []) b o $
         -- [obs; the borrow; the token of 's; what the answer owns; the token of 'a; …; _7; …; _6; …; _5; …; _4; …; _3; …; _2; …; _1; …; _0; …]
