@@ -14,7 +14,7 @@ use base.Logic.{ent, sep}
 use base.Fml.{Fml}
 use prog.Wp.{Heap}
 use ghost.Atoms.{Atoms, sem}
-use types.Kit.{Given, ‵, given, _⊛_, _$_, _∵_, !, qed, use1, split, learn, frame, done}
+use types.Kit.{Given, ‵, given, _⊛_, _$_, _∵_, !, qed, use1, split, learn, done}
 use denote.Laws.{Is}
 use denote.Ref.{NamedLft}
 use denote.Slice.{sliceVal}

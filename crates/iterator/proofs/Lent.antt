@@ -14,7 +14,7 @@ use base.Fml.{Lft, GName, Share, Fml, fsep, fex, flft, fdead, fres, flent}
 use prog.Wp.{Heap}
 use ghost.Atoms.{Atoms, sem}
 use contract.BorrowLft.{meet-⊑-left}
-use types.Kit.{Given, ‵, raw, _⊛_, some, later, _$_, _∵_, !, qed, move, use1, use2, use3, split, pick, apply, fjoin, fpack, await, updating, now as at-once, show, done}
+use types.Kit.{Given, ‵, raw, _⊛_, some, later, _$_, _∵_, !, qed, move, use1, use2, use3, split, pick, apply, fpack, await, updating, now as at-once, show, done}
 use types.SemTy.{Body}
 use types.Tokens.{lft-new, lft-end}
 use denote.RattleType.{RattleType}

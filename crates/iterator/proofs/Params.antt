@@ -10,7 +10,6 @@ use base.Logic.{SProp, ent, via, fst∗}
 use base.Fml.{Lft, Share}
 use prog.Wp.{Heap, WpFn, Tables}
 use ghost.Atoms.{Atoms}
-use contract.Lifetimes.{Lfts}
 use types.Kit.{Given}
 use sound.WpLaws.{WpFn-mono}
 use denote.Plain.{uint-vals, uint-tells}

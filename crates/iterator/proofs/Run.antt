@@ -1,5 +1,5 @@
 -- An iteration that is one value goes through the plain steps, stays at its end, and stays where it was on a refusal.
-use mathlib.Core.Path.{_≡_, refl, sym, ap, _∙_}
+use mathlib.Core.Path.{_≡_, refl, ap, _∙_}
 use mathlib.Core.Bool.{Bool, true, false}
 use mathlib.Core.List.{List}
 use Prim.Native.Nat.{ℕ, zero, suc, _+_}
@@ -24,7 +24,7 @@ use Rattle.iter.specs.declared.step.StepAnswer.the-variants.{Done, UnknownKind,
 use Rattle.iter.specs.Items.{nameIn}
 use Rattle.iter.specs.Step.{stepBy, stepOf, stepAnswer, more}
 use Rattle.iter.proofs.Steps.{step-end}
-use Rattle.handed.specs.Run.{Run, onto, runOf}
+use Rattle.handed.specs.Run.{runOf}
 use Rattle.iterator.specs.declared.Iter.{Iter}
 use Rattle.iterator.specs.Next.{answerOf, placeAfter, itemAfter, nextIter}
 use Rattle.iterator.specs.Run.{handedBy, runFrom, admissionOf, GoesOn}

@@ -1,11 +1,11 @@
-// An iteration as one value that holds the lent bytes and its place, as `packed::Iter` does, and a step that moves it on.
+// An iteration as one value that holds the lent bytes and its place, as `packed::Iter` does. Its step moves it on.
 ghost use mathlib.Core.Path.{_≡_};
 ghost use Rattle.iter.specs.Step.{stepAnswer};
 ghost use Rattle.iterator.specs.Next.{answerOf, steppedFrom, nextIter};
 use iter::step::Step;
 use iter::step::StepAnswer;
 
-// The kind of the ids, the lent bytes, the prefix that the names begin with (an empty one is none), the place reached, and the
+// The kind of the ids, the lent bytes, the prefix that names must begin with (an empty one is none), the place reached, and the
 // number of the next item.
 pub struct Iter<'a> {
     pub kind: u32,
@@ -15,7 +15,7 @@ pub struct Iter<'a> {
     pub item: u64,
 }
 
-// What a step answers, and where the iteration goes on.
+// What a step answers, and the place and the number that it leaves an iteration at.
 pub struct Stepped {
     pub answer: StepAnswer,
     pub place: usize,
@@ -35,7 +35,7 @@ pub fn new<'a>(kind: u32, s: &'a [u8], prefix: &'a [u8], place: usize, item: u64
     }
 }
 
-// One step of it: the plain step's answer, and the iteration stands where that answer says.
+// One step of it: the plain step's answer, and the iteration stands where that answer leaves it.
 pub fn next<'s, 'a>(it: &'s mut Iter<'a>) -> StepAnswer
     ensures { λ r. ⌜ (r ≡ answerOf (now (it .entry))) × (now (it .exit) ≡ nextIter (now (it .entry))) ⌝ }
 {
@@ -45,7 +45,8 @@ pub fn next<'s, 'a>(it: &'s mut Iter<'a>) -> StepAnswer
     to.answer
 }
 
-// A step from plain parameters, by an iteration that is made here, and where it leaves that iteration: whoever calls it needs no proof by hand.
+// One step of an iteration that is made here, and where it stands then. Its parameters are plain, so whoever calls it needs no
+// proof by hand.
 pub fn first<'a>(kind: u32, s: &'a [u8], prefix: &'a [u8], place: usize, item: u64) -> Stepped
     ensures { λ r. ⌜ r ≡ steppedFrom place item (stepAnswer kind (now (prefix .entry)) (now (s .entry)) place item) ⌝ }
 {
@@ -58,7 +59,7 @@ pub fn first<'a>(kind: u32, s: &'a [u8], prefix: &'a [u8], place: usize, item: u
     }
 }
 
-// The plain step, and where it leaves the iteration.
+// The plain step, and where it leaves an iteration.
 pub(crate) fn step<'a>(kind: u32, s: &'a [u8], prefix: &'a [u8], place: usize, item: u64) -> Stepped
     ensures { λ r. ⌜ r ≡ steppedFrom place item (stepAnswer kind (now (prefix .entry)) (now (s .entry)) place item) ⌝ }
 {
@@ -69,15 +70,15 @@ pub(crate) fn step<'a>(kind: u32, s: &'a [u8], prefix: &'a [u8], place: usize, i
     )
 }
 
-// The answer, with its next place and its next number; a refusal leaves both as they came.
+// An answer's next place and next number; a refusal leaves both as they came.
 pub(crate) fn goes_on(place: usize, item: u64, answer: StepAnswer) -> Stepped
     ensures { λ r. ⌜ r ≡ steppedFrom place item answer ⌝ }
 {
     match answer {
         StepAnswer::Done(done) => match done {
-            Step::End { next, item } => Stepped {
+            Step::End { next: end, item } => Stepped {
                 answer,
-                place: next,
+                place: end,
                 item,
             },
             Step::Good {
@@ -93,11 +94,11 @@ pub(crate) fn goes_on(place: usize, item: u64, answer: StepAnswer) -> Stepped
                 fault: _,
                 number: _,
                 text: _,
-                next,
+                next: behind,
                 item,
             } => Stepped {
                 answer,
-                place: next,
+                place: behind,
                 item,
             },
         },
