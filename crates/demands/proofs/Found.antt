@@ -92,7 +92,7 @@ module _ (kind n : ℕ) (d : digitsOf kind ≡ kinds.Digits n) (file : List ℕ)
               λ no. answer
               ∙ ap looked.Done
               (exactly .absent
-              (λ place r x. let y = stands-in n (bodyOf c) (c .header .body) (firstItem file) name place r x in no _ (rw out-is (y .0)) (y .1)));
+              (λ place r x. let y = stands-in n (bodyOf c) (c .header .body) (firstItem file) name place r x in no (found kind n file c name place r) (rw out-is (y .0)) (y .1)));
           none =
               λ e g x h.
               let y = stood n (bodyOf c) (c .header .body) (firstItem file) name g (rw out-is at x) h in

@@ -21,7 +21,7 @@ use Rattle.iter.specs.Stands.{Stands, Named}
 use Rattle.iter.specs.Step.{more}
 use Rattle.iter.proofs.Each.{each}
 use Rattle.iter.proofs.Items.{size-good}
-use Rattle.handed.specs.Handed.{Handed, Given, given, good, peeled, partsBy, partsOf, handedBy, handedAt, handed, whats}
+use Rattle.handed.specs.Handed.{Handed, Given, given, partsBy, partsOf, handedBy, handedAt, handed, whats}
 use Rattle.handed.proofs.Runs.{parts-inside}
 use Rattle.checks.specs.Passes.{isGood, allGood}
 use Rattle.find.specs.Present.{withPrefix}
@@ -62,17 +62,19 @@ module _ (n : ℕ) where
   to-given (i ∷ before) it after at number =
       let (k, x) = to-given before it after (at + length (i .bytes)) (more number) in
       let z : at + length (i .bytes) + length (bytesOf before) ≡ at + length (i .bytes ++ bytesOf before) = omega (arith, length-append (i .bytes) (bytesOf before)) in
-      (k, rw z at (record { before = handedAt n at number i ∷ x .before; after = x .after; all = ap (λ (l : List Given). handedAt n at number i ∷ l) (x .all) }))
+      let y : In (handedAt n (at + length (i .bytes) + length (bytesOf before)) k it) (handed n at number (i ∷ (before ++ it ∷ after))) =
+      record { before = handedAt n at number i ∷ x .before; after = x .after; all = ap (λ (l : List Given). handedAt n at number i ∷ l) (x .all) } in
+      (k, rw z at y)
 
   -- ---- a record that stands in a body is handed out by its places
 
   module _ (s : List ℕ) where
     stands-as : {place : ℕ} {it : Item} {r : Record} → Stands paper n s place it → it .what ≡ Good r
         → (length (it .bytes) ≡ r .size) × (partsOf n (it .bytes) r ≡ partsOf n (drop place s) r)
-    stands-as {place} {it} {r} x good =
+    stands-as {place} {it} {r} x reads =
         let t = drop place s in
         let e : it ≡ itemOf paper n t = each n s place it x .read in
-        let q : recordOf paper n t ≡ Good r = sym (ap (λ (j : Item). j .what) e) ∙ good in
+        let q : recordOf paper n t ≡ Good r = sym (ap (λ (j : Item). j .what) e) ∙ reads in
         let b : it .bytes ≡ take (r .size) t = ap (λ (j : Item). j .bytes) e ∙ ap (λ (k : ℕ). take k t) (size-good paper n t r q) in
         (ap length b ∙ length-take-le (r .size) t (fits paper n t r q .inside), ap (λ (y : List ℕ). partsOf n y r) b ∙ parts-inside paper n t r q)
 
@@ -107,7 +109,7 @@ module _ (n : ℕ) where
         let place = length (bytesOf (y .before)) in
         let stands : Stands paper n s place (y .it) = record { before = y .before; after = y .after; all = y .all; here = refl } in
         let k : Has wanted (handedBy n (y .number) (y .it .bytes) (y .it .what)) = rw (y .is) at h in
-        go (y .it .what) refl y stands k
+        go (y .it .what) y refl stands k
       where
         go : (w : Reading) (y : FromItem at (items paper n s) g) → y .it .what ≡ w → Stands paper n s (length (bytesOf (y .before))) (y .it)
             → Has wanted (handedBy n (y .number) (y .it .bytes) w) → Stood at wanted g
