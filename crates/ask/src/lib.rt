@@ -48,7 +48,7 @@ pub fn ask(kind: u32, file: &[u8], name: &[u8]) -> AskAnswer
 }
 
 // The same by a table of byte classes and for ids of n digits.
-pub(crate) fn ask_by(t: &[u8; 256], n: usize, file: &[u8], name: &[u8]) -> Told
+pub fn ask_by(t: &[u8; 256], n: usize, file: &[u8], name: &[u8]) -> Told
     ensures { λ r. ⌜ r ≡ askOf (classesOf (now (t .entry))) n (now (file .entry)) (now (name .entry)) ⌝ }
 {
     if !name::is_valid_by(t, name) {

@@ -58,7 +58,7 @@ pub fn next_with_prefix(kind: u32, s: &[u8], prefix: &[u8], place: usize, item: 
 }
 
 // The same by a table of byte classes and for ids of n digits.
-pub(crate) fn next_by(
+pub fn next_by(
     t: &[u8; 256],
     n: usize,
     prefix: &[u8],
