@@ -14,6 +14,8 @@ use Rattle.decode.specs.declared.reference.Record.{Record}
 use Rattle.header.specs.Header.{headerOf}
 use Rattle.checks.specs.declared.Verdict.{Verdict}
 use Rattle.checks.specs.declared.Verdict.the-variants as verdict
+use Rattle.checks.specs.declared.Refusal.{Refusal}
+use Rattle.checks.specs.declared.Refusal.the-variants.{BadHeader}
 use Rattle.iter.specs.Items.{items, bytesOf}
 use Rattle.checks.specs.Check.{judge, judgeBody, checkOf}
 use Rattle.checks.proofs.CheckMeans.{read}
@@ -28,15 +30,11 @@ use Rattle.ask.proofs.FirstNamed.{NamedAmong, told-at, told-nowhere}
 -- only a clean verdict says absent
 clean : (v : Verdict) → unlessFound v ≡ told.Absent → (count : ℕ) × (v ≡ verdict.Clean count)
 clean (verdict.Clean count) e = (count, refl)
-clean (verdict.BadHeader k) e = (0, cc)
-clean (verdict.BadRecord place f) e = (0, cc)
-clean (verdict.Unsorted place) e = (0, cc)
+clean (verdict.Refused why) e = (0, cc)
 
 never-charted : (v : Verdict) {place : ℕ} {r : Record} → unlessFound v ≡ told.Charted place r → ⊥
 never-charted (verdict.Clean count) e = let z : _≡_ {A = ℕ} 0 1 = cc in omega arith
-never-charted (verdict.BadHeader k) e = let z : _≡_ {A = ℕ} 0 1 = cc in omega arith
-never-charted (verdict.BadRecord place f) e = let z : _≡_ {A = ℕ} 0 1 = cc in omega arith
-never-charted (verdict.Unsorted place) e = let z : _≡_ {A = ℕ} 0 1 = cc in omega arith
+never-charted (verdict.Refused why) e = let z : _≡_ {A = ℕ} 0 1 = cc in omega arith
 
 module _ (n : ℕ) (file name : List ℕ) where
   abbrev sought : Header → Sought
@@ -48,7 +46,7 @@ module _ (n : ℕ) (file name : List ℕ) where
   -- the four ways to an answer
   data Asked : Type 0 where
     bad-name : askOf paper n file name ≡ told.BadName → Asked
-    bad-header : {k : ℕ} → askOf paper n file name ≡ told.BadHeader k → Asked
+    bad-header : {why : Refusal} → askOf paper n file name ≡ told.Refused why → Asked
     charted : {h : Header} {place : ℕ} {r : Record} → headerOf paper file ≡ opened.Header h → sought h ≡ At place r
         → askOf paper n file name ≡ told.Charted place r → Asked
     nowhere : {h : Header} → headerOf paper file ≡ opened.Header h → sought h ≡ Nowhere → askOf paper n file name ≡ unlessFound (judged h) → Asked
@@ -59,7 +57,7 @@ module _ (n : ℕ) (file name : List ℕ) where
     where
       go : (t : Bool) → validName paper name ≡ t → (o : Opened) → headerOf paper file ≡ o → Asked
       go false v o q = bad-name (rw v)
-      go true v (opened.Unreadable k) q = bad-header {k = k} (rw (v, q))
+      go true v (opened.Unreadable k) q = bad-header {why = BadHeader k} (rw (v, q))
       go true v (opened.Header h) q = by (sought h) refl
         where
           by : (x : Sought) → sought h ≡ x → Asked
