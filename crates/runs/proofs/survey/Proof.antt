@@ -114,7 +114,7 @@ returns-2 : tie.Need-returns-2 Inv-loop μ-loop
 returns-2 c =
     let k = c .before .before .before in
     let told = c .before .why .given .1 in
-    let stop = marked-stop (here k) (list k) (index k) (l k .loop .j) (l k .loop .marks) _ (tells k _ told) in
+    let stop = marked-stop (here k) (list k) (index k) (l k .loop .j) (l k .loop .marks) (c .before .why .given .0 .0) (tells k _ told) in
     (whole k _ told, sym stop ∙ l k .loop .inv .3)
 
 enum-known-found : tie.Need-enum-known-found Inv-loop μ-loop
