@@ -25,7 +25,7 @@ pub struct Change {
 
 // Why an edit can't be taken.
 pub enum Fault {
-    // A kind or a length that there is none of, or an edit that is cut short.
+    // The kind is unknown, the length has no form that a length has, or the edit is cut short.
     Malformed,
     // A name that is empty, too long, or breaks the name rules.
     BadName,

@@ -93,7 +93,7 @@ indexBy list index (bad why) = index
 unfoldable pub indexAfter : Classes → ℕ → List ℕ → List ℕ → List ℕ
 indexAfter byte n list index = if (overLimit (length list)) index (indexBy list index (editsOf byte n list))
 
--- the paper's number for each fault
+-- the paper's number for each fault: an edit's, or "a 4,097th edit begins"
 abbrev pub listFaultNumber : ListFault → ℕ
 listFaultNumber (BadEdit place f) = editFaultNumber f
 listFaultNumber (TooMany place) = 9

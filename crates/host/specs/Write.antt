@@ -3,8 +3,8 @@ use Prim.Native.Nat.{ℕ}
 use Rattle.edit.specs.declared.list.ListFault.{ListFault}
 use Rattle.edit.specs.declared.list.ListFault.the-variants.{BadEdit, TooMany}
 use Rattle.edit.specs.List.{listFaultNumber}
-use Rattle.reply.specs.declared.told.Refused as told
-use Rattle.reply.specs.Told.{refusedGives, refusalBeside}
+use Rattle.reply.specs.declared.told.Numbered.{Numbered}
+use Rattle.reply.specs.Told.{refusalGives, refusalBeside}
 use Rattle.merge.specs.declared.Merged.{Merged}
 use Rattle.merge.specs.declared.Merged.the-variants.{Done, UnknownKind, TooLarge, BadList, ShortIndex, Twins, Refused, NothingToDo, NoRecord, ShortOutput}
 use Rattle.merge.specs.Merge.{mergeNumber}
@@ -13,15 +13,16 @@ use Rattle.host.specs.declared.write.MergeReply.{MergeReply}
 abbrev pub mergeGives : ℕ → ℕ → ℕ → ℕ → MergeReply
 mergeGives number place len textLen = record { number = number; place = place; length = len; «text_len» = textLen }
 
-abbrev pub mergeRefused : told.Refused → MergeReply
+-- a refusal that has its number: no file, so no length
+abbrev pub mergeRefused : Numbered → MergeReply
 mergeRefused r = mergeGives (r .number) (r .place) 0 (r .«text_len»)
 
 -- "merge the edit's start for 7, 8, 9"
-abbrev pub listFaultBeside : ℕ → ListFault → told.Refused
-listFaultBeside number (BadEdit place f) = refusedGives number place 0
-listFaultBeside number (TooMany place) = refusedGives number place 0
+abbrev pub listFaultBeside : ℕ → ListFault → Numbered
+listFaultBeside number (BadEdit place f) = refusalGives number place 0
+listFaultBeside number (TooMany place) = refusalGives number place 0
 
-abbrev pub listFaultTold : ListFault → told.Refused
+abbrev pub listFaultTold : ListFault → Numbered
 listFaultTold why = listFaultBeside (listFaultNumber why) why
 
 -- what stands beside a number: "check and merge give the item's place in the lent file for 4 and 6, merge the edit's start for 7, 8, 9 and 11,

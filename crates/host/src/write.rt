@@ -7,7 +7,7 @@ ghost use Rattle.host.specs.Write.{mergeReply, mergeGives, listFaultTold
 use change::Fault;
 use edit::list::ListFault;
 use merge::Merged;
-use reply::told::Refused;
+use reply::told::Numbered;
 
 #[repr(C)]
 pub struct MergeReply {
@@ -59,14 +59,14 @@ fn told(merged: Merged) -> MergeReply
 }
 
 // The first fault of an edit list.
-fn list_fault(why: ListFault) -> Refused
+fn list_fault(why: ListFault) -> Numbered
     ensures { λ r. ⌜ r ≡ listFaultTold why ⌝ }
 {
     match why {
         ListFault::BadEdit { place, fault } => {
-            reply::told::refused_gives(edit_fault_number(fault), place, 0)
+            reply::told::refusal_gives(edit_fault_number(fault), place, 0)
         }
-        ListFault::TooMany(place) => reply::told::refused_gives(9, place, 0),
+        ListFault::TooMany(place) => reply::told::refusal_gives(9, place, 0),
     }
 }
 

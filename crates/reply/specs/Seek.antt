@@ -17,7 +17,7 @@ use Rattle.ask.specs.Ask.{askNumber}
 use Rattle.reply.specs.declared.seek.LookupReply.{LookupReply}
 use Rattle.reply.specs.declared.seek.PrefixReply.{PrefixReply}
 use Rattle.reply.specs.declared.seek.AskReply.{AskReply}
-use Rattle.reply.specs.declared.told.Refused.{Refused}
+use Rattle.reply.specs.declared.told.Numbered.{Numbered}
 use Rattle.reply.specs.Told.{Near, nameAt, peeledAt, refusalBeside}
 
 -- ---- lookup
@@ -72,7 +72,7 @@ abbrev pub askBare : ℕ → ℕ → ℕ → AskReply
 askBare number place textLen =
     record { number = number; place = place; «name_at» = 0; «name_len» = 0; «peeled_at» = 0; «text_len» = textLen }
 
-abbrev pub askRefused : Refused → AskReply
+abbrev pub askRefused : Numbered → AskReply
 askRefused r = askBare (r .number) (r .place) (r .«text_len»)
 
 abbrev pub askBeside : ℕ → ℕ → AskAnswer → AskReply

@@ -9,7 +9,7 @@ use Rattle.decode.specs.declared.reference.Record.{Record}
 use Rattle.checks.specs.declared.Refusal.{Refusal}
 use Rattle.checks.specs.declared.Refusal.the-variants.{BadHeader, BadRecord, Unsorted}
 use Rattle.checks.specs.Check.{refusalNumber}
-use Rattle.reply.specs.declared.told.Refused.{Refused}
+use Rattle.reply.specs.declared.told.Numbered.{Numbered}
 use Rattle.header.specs.declared.Peeled.{Peeled}
 use Rattle.header.specs.declared.Peeled.the-variants.{Unspecified, Partial, Fully}
 
@@ -32,15 +32,15 @@ peeledAt place object = if (eqb object 0) 0 (place + object)
 
 -- "Beside the number, check and merge give the item's place in the lent file for 4 and 6, .. and 2 its text; nothing else is given with a
 -- refusal."
-abbrev pub refusedGives : ℕ → ℕ → ℕ → Refused
-refusedGives number place textLen = record { number = number; place = place; «text_len» = textLen }
+abbrev pub refusalGives : ℕ → ℕ → ℕ → Numbered
+refusalGives number place textLen = record { number = number; place = place; «text_len» = textLen }
 
-abbrev pub refusalBeside : ℕ → Refusal → Refused
-refusalBeside number (BadHeader text) = refusedGives number 0 text
-refusalBeside number (BadRecord place f) = refusedGives number place 0
-refusalBeside number (Unsorted place) = refusedGives number place 0
+abbrev pub refusalBeside : ℕ → Refusal → Numbered
+refusalBeside number (BadHeader text) = refusalGives number 0 text
+refusalBeside number (BadRecord place f) = refusalGives number place 0
+refusalBeside number (Unsorted place) = refusalGives number place 0
 
-abbrev pub refusalTold : Refusal → Refused
+abbrev pub refusalTold : Refusal → Numbered
 refusalTold why = refusalBeside (refusalNumber why) why
 
 -- "one of three peeled states (unspecified, partial, fully)"

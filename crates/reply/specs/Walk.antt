@@ -17,7 +17,7 @@ use Rattle.checks.specs.Check.{checkNumber}
 use Rattle.reply.specs.declared.walk.StartReply.{StartReply}
 use Rattle.reply.specs.declared.walk.StepReply.{StepReply}
 use Rattle.reply.specs.declared.walk.CheckReply.{CheckReply}
-use Rattle.reply.specs.declared.told.Refused.{Refused}
+use Rattle.reply.specs.declared.told.Numbered.{Numbered}
 use Rattle.reply.specs.Told.{Near, nameAt, peeledAt, refusalBeside}
 
 -- ---- the start
@@ -96,7 +96,7 @@ StepNear place a = (r : Record) (next item : ℕ) → a ≡ step.Done (Good r ne
 abbrev pub checkGives : ℕ → ℕ → ℕ → ℕ → CheckReply
 checkGives number place count textLen = record { number = number; place = place; count = count; «text_len» = textLen }
 
-abbrev pub checkRefused : Refused → CheckReply
+abbrev pub checkRefused : Numbered → CheckReply
 checkRefused r = checkGives (r .number) (r .place) 0 (r .«text_len»)
 
 abbrev pub checkBeside : ℕ → CheckAnswer → CheckReply
