@@ -12,10 +12,9 @@ use Rattle.parse.specs.declared.limit.IdKind.the-variants as kinds
 use Rattle.parse.specs.Limit.{digitsOf, overLimit}
 use Rattle.parse.proofs.Admitted.{asked, through}
 use Rattle.header.specs.declared.Header.{Header}
-use Rattle.header.specs.declared.Opened.{Opened}
 use Rattle.header.specs.declared.Opened.the-variants as opened
 use Rattle.header.specs.declared.HeaderAnswer.the-variants as headed
-use Rattle.header.specs.Header.{headerOf, answered, headerAnswer}
+use Rattle.header.specs.Header.{headerOf, headerAnswer}
 use Rattle.checks.specs.declared.Verdict.the-variants.{Clean}
 use Rattle.checks.specs.declared.CheckAnswer.the-variants.{Done, UnknownKind, TooLarge}
 use Rattle.checks.specs.Check.{checkOf, checkAnswer}
@@ -31,15 +30,14 @@ passed kind n d file count e =
     let v : checkOf paper m file ≡ Clean count = cc in
     (rw same at v, small)
 
-pub opened-as : (file : List ℕ) (h : Header) → headerAnswer file ≡ headed.Done h → headerOf paper file ≡ opened.Header h
+pub opened-as : (file : List ℕ) (h : Header) → headerAnswer file ≡ headed.Done (opened.Header h) → headerOf paper file ≡ opened.Header h
 unfolding headerAnswer
-opened-as file h e = go (overLimit (length file)) refl (headerOf paper file) refl e
+opened-as file h e = go (overLimit (length file)) refl e
   where
-    go : (b : Bool) → overLimit (length file) ≡ b → (o : Opened) → headerOf paper file ≡ o → if b headed.TooLarge (answered o) ≡ headed.Done h
+    go : (b : Bool) → overLimit (length file) ≡ b → if b headed.TooLarge (headed.Done (headerOf paper file)) ≡ headed.Done (opened.Header h)
         → headerOf paper file ≡ opened.Header h
-    go true b o q x = absurd (let z : _≡_ {A = ℕ} 0 1 = cc in omega arith)
-    go false b (opened.Unreadable k) q x = absurd (let z : _≡_ {A = ℕ} 0 1 = cc in omega arith)
-    go false b (opened.Header k) q x = let z : k ≡ h = cc in q ∙ rw z
+    go true b x = absurd (let z : _≡_ {A = ℕ} 0 1 = cc in omega arith)
+    go false b x = cc
 
 pub some-digits : (kind n : ℕ) → digitsOf kind ≡ kinds.Digits n → 0 < n
 unfolding digitsOf

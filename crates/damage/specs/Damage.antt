@@ -11,6 +11,7 @@ use Rattle.parse.specs.declared.limit.IdKind.the-variants.{Digits}
 use Rattle.parse.specs.Limit.{digitsOf, overLimit}
 use Rattle.parse.specs.Line.{lineLen}
 use Rattle.header.specs.declared.Header.{Header}
+use Rattle.header.specs.declared.Opened.the-variants as opened
 use Rattle.header.specs.declared.HeaderAnswer.the-variants as headed
 use Rattle.header.specs.Header.{headerAnswer}
 use Rattle.start.specs.declared.StartAnswer.the-variants as started
@@ -35,7 +36,7 @@ pub record Replaced (kind : ℕ) (header kept run other rest : List ℕ) : Type 
   pub count : ℕ
   pub passes : checkAnswer kind (whole header kept run rest) ≡ checked.Done (Clean count)
   pub head : Header
-  pub reads : headerAnswer (whole header kept run rest) ≡ headed.Done head
+  pub reads : headerAnswer (whole header kept run rest) ≡ headed.Done (opened.Header head)
   pub behind : head .body ≡ length header
   pub limit : overLimit (length (whole header kept other rest)) ≡ false
   pub no-hash : header ≡ [] → getD (whole header kept other rest) 0 0 ≡ 35 → ⊥

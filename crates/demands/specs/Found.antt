@@ -13,6 +13,7 @@ use Rattle.parse.specs.Limit.{digitsOf, overLimit}
 use Rattle.compare.specs.Prefix.{begins}
 use Rattle.name.specs.Name.{validName}
 use Rattle.header.specs.declared.Header.{Header}
+use Rattle.header.specs.declared.Opened.the-variants as opened
 use Rattle.header.specs.declared.HeaderAnswer.the-variants as headed
 use Rattle.header.specs.Header.{headerAnswer}
 use Rattle.decode.specs.declared.reference.Record.{Record}
@@ -35,7 +36,7 @@ pub record Checked (kind : ℕ) (file : List ℕ) : Type 0 where
   pub count : ℕ
   pub passes : checkAnswer kind file ≡ checked.Done (Clean count)
   pub header : Header
-  pub reads : headerAnswer file ≡ headed.Done header
+  pub reads : headerAnswer file ≡ headed.Done (opened.Header header)
 
 -- the bytes behind the header, which lookup and listing are lent
 abbrev pub bodyOf : {kind : ℕ} {file : List ℕ} → Checked kind file → List ℕ

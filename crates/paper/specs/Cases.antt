@@ -5,10 +5,10 @@ use mathlib.Core.List.{List, [], _∷_, _++_, map}
 use Prim.Native.Nat.{ℕ}
 use lib.ListN.{take, drop, replicate}
 use Rattle.class.specs.Class.{paper}
-use Rattle.checks.specs.Check.{checkAnswer, checkNumber}
+use Rattle.checks.specs.Check.{checkAnswer, checkNumber, refusalNumber}
 use Rattle.checks.specs.declared.CheckAnswer.{CheckAnswer}
 use Rattle.checks.specs.declared.CheckAnswer.the-variants as checked
-use Rattle.checks.specs.declared.Verdict.the-variants.{Clean, BadHeader, BadRecord, Unsorted}
+use Rattle.checks.specs.declared.Verdict.the-variants.{Clean, Refused}
 use Rattle.handed.specs.Handed.{Handed, good, error, whats}
 use Rattle.handed.specs.Run.{readOf, outOf}
 use Rattle.find.specs.Lookup.{lookupAnswer, lookupNumber}
@@ -41,9 +41,7 @@ pub data Outcome : Type 0 where
 
 abbrev pub checkOutcome : CheckAnswer → Outcome
 checkOutcome (checked.Done (Clean k)) = count k
-checkOutcome (checked.Done (BadHeader text)) = number (checkNumber (checked.Done (BadHeader text)))
-checkOutcome (checked.Done (BadRecord place f)) = number (checkNumber (checked.Done (BadRecord place f)))
-checkOutcome (checked.Done (Unsorted place)) = number (checkNumber (checked.Done (Unsorted place)))
+checkOutcome (checked.Done (Refused why)) = number (refusalNumber why)
 checkOutcome checked.UnknownKind = number (checkNumber checked.UnknownKind)
 checkOutcome checked.TooLarge = number (checkNumber checked.TooLarge)
 
