@@ -114,13 +114,13 @@ module _ (n : ℕ) (file name : List ℕ) where
             (ap (firstNamed n name (h .body)) (sym (x .stands .all)) ∙ e) (x .good) (x .name-is))
 
     otherwise : ((inner : ℕ) (r : Record) → Named n (drop (h .body) file) name inner r → ⊥) → askOf paper n file name ≡ unlessFound (checkOf paper n file)
-    otherwise no = go (sought h) refl
+    otherwise none-has = go (sought h) refl
       where
         go : (s : Sought) → sought h ≡ s → askOf paper n file name ≡ unlessFound (checkOf paper n file)
         go (At place r) e =
             let x : NamedAmong n name (h .body) (items paper n (drop (h .body) file)) place r = told-at n name (h .body) (items paper n (drop (h .body) file)) e in
             absurd
-            (no (length (bytesOf (x .before))) r
+            (none-has (length (bytesOf (x .before))) r
             (record { it = x .it; stands = record { before = x .before; after = x .after; all = x .all; here = refl }; good = x .good; name-is = x .name-is }))
         go Nowhere e = by-sought ∙ rw e (ap unlessFound (sym (read paper n file opens)))
 
