@@ -77,3 +77,9 @@ turnBy n last rest place (Bad f) = turn.Refused (BadRecord place f)
 unfoldable pub turnOf : Classes → ℕ → List ℕ → ℕ → List ℕ → Turn
 turnOf byte n file place last =
     if (ltb place (length file)) (turnBy n last (drop place file) place (recordOf byte n (drop place file))) turn.End
+
+-- the paper's number for each case: an end or a record that is in order is no refusal
+abbrev pub turnNumber : Turn → ℕ
+turnNumber turn.End = 0
+turnNumber (turn.On r) = 0
+turnNumber (turn.Refused why) = refusalNumber why

@@ -85,7 +85,10 @@ unfoldable pub headerAnswer : List ℕ → HeaderAnswer
 headerAnswer s = if (overLimit (length s)) answer.the-variants.TooLarge (answer.the-variants.Done (headerOf paper s))
 
 -- the paper's number for each case
+abbrev pub openedNumber : Opened → ℕ
+openedNumber (opened.the-variants.Header h) = 0
+openedNumber (opened.the-variants.Unreadable k) = 2
+
 abbrev pub headerNumber : HeaderAnswer → ℕ
-headerNumber (answer.the-variants.Done (opened.the-variants.Header h)) = 0
-headerNumber (answer.the-variants.Done (opened.the-variants.Unreadable k)) = 2
+headerNumber (answer.the-variants.Done o) = openedNumber o
 headerNumber answer.the-variants.TooLarge = 17
