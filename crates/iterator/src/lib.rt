@@ -1,44 +1,116 @@
-// An iteration as one value that holds the lent bytes, and thin functions over it: its step is the plain step.
+// An iteration as one value that holds the lent bytes and its place, as `packed::Iter` does. Its step moves it on.
 ghost use mathlib.Core.Path.{_≡_};
-ghost use mathlib.Core.List.{[]};
 ghost use Rattle.iter.specs.Step.{stepAnswer};
+ghost use Rattle.iterator.specs.Next.{answerOf, steppedFrom, nextIter};
+use iter::step::Step;
 use iter::step::StepAnswer;
 
-// The lent bytes, the place reached, and the number of the next item.
+// The kind of the ids, the lent bytes, the prefix that names must begin with (an empty one is none), the place reached, and the
+// number of the next item.
 pub struct Iter<'a> {
+    pub kind: u32,
     pub s: &'a [u8],
+    pub prefix: &'a [u8],
+    pub place: usize,
+    pub item: u64,
+}
+
+// What a step answers, and the place and the number that it leaves an iteration at.
+pub struct Stepped {
+    pub answer: StepAnswer,
     pub place: usize,
     pub item: u64,
 }
 
 // An iteration that goes on from a place.
-pub fn new<'a>(s: &'a [u8], place: usize, item: u64) -> Iter<'a>
-    ensures { λ r. ⌜ (r .s ≡ s .entry) × (r .place ≡ place) × (r .item ≡ item) ⌝ }
-{
-    Iter { s, place, item }
-}
-
-// One step of it: the plain step's answer.
-pub fn next<'a>(kind: u32, it: Iter<'a>) -> StepAnswer
-    ensures { λ r. ⌜ r ≡ stepAnswer kind [] (now (it .entry .s)) (it .entry .place) (it .entry .item) ⌝ }
-{
-    iter::step::next(kind, it.s, it.place, it.item)
-}
-
-// The same bytes at another place, with another number.
-pub fn moved<'a>(it: Iter<'a>, place: usize, item: u64) -> Iter<'a>
-    ensures { λ r. ⌜ (r .s ≡ it .entry .s) × (r .place ≡ place) × (r .item ≡ item) ⌝ }
+pub fn new<'a>(kind: u32, s: &'a [u8], prefix: &'a [u8], place: usize, item: u64) -> Iter<'a>
+    ensures { λ r. ⌜ r ≡ record { kind = kind; s = s .entry; prefix = prefix .entry; place = place; item = item } ⌝ }
 {
     Iter {
-        s: it.s,
+        kind,
+        s,
+        prefix,
         place,
         item,
     }
 }
 
-// One step from plain parameters: whoever calls it needs no proof by hand.
-pub fn first(kind: u32, s: &[u8], place: usize, item: u64) -> StepAnswer
-    ensures { λ r. ⌜ r ≡ stepAnswer kind [] (now (s .entry)) place item ⌝ }
+// One step of it: the plain step's answer, and the iteration stands where that answer leaves it.
+pub fn next<'s, 'a>(it: &'s mut Iter<'a>) -> StepAnswer
+    ensures { λ r. ⌜ (r ≡ answerOf (now (it .entry))) × (now (it .exit) ≡ nextIter (now (it .entry))) ⌝ }
 {
-    next(kind, new(s, place, item))
+    let to = step(it.kind, it.s, it.prefix, it.place, it.item);
+    it.place = to.place;
+    it.item = to.item;
+    to.answer
+}
+
+// One step of an iteration that is made here, and where it stands then. Its parameters are plain, so whoever calls it needs no
+// proof by hand.
+pub fn first<'a>(kind: u32, s: &'a [u8], prefix: &'a [u8], place: usize, item: u64) -> Stepped
+    ensures { λ r. ⌜ r ≡ steppedFrom place item (stepAnswer kind (now (prefix .entry)) (now (s .entry)) place item) ⌝ }
+{
+    let mut it = new(kind, s, prefix, place, item);
+    let answer = next(&mut it);
+    Stepped {
+        answer,
+        place: it.place,
+        item: it.item,
+    }
+}
+
+// The plain step, and where it leaves an iteration.
+pub(crate) fn step<'a>(kind: u32, s: &'a [u8], prefix: &'a [u8], place: usize, item: u64) -> Stepped
+    ensures { λ r. ⌜ r ≡ steppedFrom place item (stepAnswer kind (now (prefix .entry)) (now (s .entry)) place item) ⌝ }
+{
+    goes_on(
+        place,
+        item,
+        iter::step::next_with_prefix(kind, s, prefix, place, item),
+    )
+}
+
+// An answer's next place and next number; a refusal leaves both as they came.
+pub(crate) fn goes_on(place: usize, item: u64, answer: StepAnswer) -> Stepped
+    ensures { λ r. ⌜ r ≡ steppedFrom place item answer ⌝ }
+{
+    match answer {
+        StepAnswer::Done(done) => match done {
+            Step::End { next: end, item } => Stepped {
+                answer,
+                place: end,
+                item,
+            },
+            Step::Good {
+                found: _,
+                next,
+                item,
+            } => Stepped {
+                answer,
+                place: next,
+                item,
+            },
+            Step::Error {
+                fault: _,
+                number: _,
+                text: _,
+                next: behind,
+                item,
+            } => Stepped {
+                answer,
+                place: behind,
+                item,
+            },
+        },
+        StepAnswer::UnknownKind => Stepped {
+            answer,
+            place,
+            item,
+        },
+        StepAnswer::TooLarge => Stepped {
+            answer,
+            place,
+            item,
+        },
+    }
 }
