@@ -5,7 +5,7 @@ use base.Logic.{SProp, ent, sep, via, id⊢, fst∗, snd∗}
 use contract.Monad.{conj, conjL, conjR, fact, factI, fact-use}
 use denote.Triple.Entry.{Res}
 use denote.Triple.Clauses.{Ended}
-use Rattle.determined.specs.Outcomes.{Contract, Call, Outcome}
+use Rattle.determined.specs.Outcomes.{Contract, Model, Call, Outcome}
 
 pub one : {A : Type 0} {x y d : A} → x ≡ d → y ≡ d → x ≡ y
 one p q = p ∙ sym q
@@ -33,11 +33,11 @@ module _ {M : Type 1} (𝓤 : URA M) where
       → ent 𝓤 (conj 𝓤 (sep 𝓤 (fact 𝓤 φ) (sep 𝓤 (fact 𝓤 ψ) (fact 𝓤 χ))) (sep 𝓤 (fact 𝓤 φ′) (sep 𝓤 (fact 𝓤 ψ′) (fact 𝓤 χ′)))) (fact 𝓤 X)
   clauses-3 {φ} {φ′} {ψ} {ψ′} {χ} {χ′} f = follows (both {φ = φ} (both {φ = ψ} (id⊢ 𝓤 (fact 𝓤 χ)))) (both {φ = φ′} (both {φ = ψ′} (id⊢ 𝓤 (fact 𝓤 χ′)))) f
 
-module _ {T : Ended} {c : Contract T} (k : Call T c) (o o′ : Outcome T c k) where
+module _ {T : Ended} {c : Contract T} {m : Model} (k : Call T c m) (o o′ : Outcome T c m k) where
   -- outcomes of equal parts are equal
   pub same : o .answer ≡ o′ .answer → o .lent ≡ o′ .lent → o ≡ o′
   same p q i = record { answer = p i; lent = q i }
 
-  -- a contract of one clause that gives the answer, of a function that lends nothing for writing
-  pub by-answer : {d : Res (T .signature) (k .lifetimes)} → o .lent ≡ o′ .lent → ent (k .𝓤) (conj (k .𝓤) (fact (k .𝓤) (o .answer ≡ d)) (fact (k .𝓤) (o′ .answer ≡ d))) (fact (k .𝓤) (o ≡ o′))
-  by-answer l = clauses-1 (k .𝓤) (λ p q. same (one p q) l)
+  -- a contract of one clause that gives the answer, of a function that is lent nothing for writing
+  pub by-answer : {d : Res (T .signature) (k .lifetimes)} → o .lent ≡ o′ .lent → ent (m .𝓤) (conj (m .𝓤) (fact (m .𝓤) (o .answer ≡ d)) (fact (m .𝓤) (o′ .answer ≡ d))) (fact (m .𝓤) (o ≡ o′))
+  by-answer l = clauses-1 (m .𝓤) (λ p q. same (one p q) l)

@@ -5,10 +5,10 @@ use Rattle.determined.proofs.Law.{by-answer}
 
 pub lookups : Lookups
 lookups = record {
-  probe-name-at-record-start = λ k o o′. by-answer k o o′ refl;
-  probe-record-start = λ k o o′. by-answer k o o′ refl;
-  search-search = λ k o o′. by-answer k o o′ refl;
-  find-find = λ k o o′. by-answer k o o′ refl;
-  find-list = λ k o o′. by-answer k o o′ refl;
-  ask-ask = λ k o o′. by-answer k o o′ refl;
+  probe-name-at-record-start = λ m k o o′. by-answer k o o′ refl;
+  probe-record-start = λ m k o o′. by-answer k o o′ refl;
+  search-search = λ m k o o′. by-answer k o o′ refl;
+  find-find = λ m k o o′. by-answer k o o′ refl;
+  find-list = λ m k o o′. by-answer k o o′ refl;
+  ask-ask = λ m k o o′. by-answer k o o′ refl;
 }
