@@ -236,7 +236,16 @@ module _ (kind : ℕ) (old list index out : List ℕ) where
       index-by : (a : Admission) → admission kind (length old) (length list) ≡ a
           → (beforeEleven (mergeNumber (mergeAnswer kind old list (length index) (length out))) ≡ true → indexAnswer kind old list index ≡ index)
           × (beforeEleven (mergeNumber (mergeAnswer kind old list (length index) (length out))) ≡ false → Filled kind old list index out)
-      index-by a e = ?
+      index-by (admitted.Digits n) e = go (index-is n old list index (length out))
+        where
+          go : Index n old list index (length out)
+              → (beforeEleven (mergeNumber (mergeAnswer kind old list (length index) (length out))) ≡ true → indexAnswer kind old list index ≡ index)
+              × (beforeEleven (mergeNumber (mergeAnswer kind old list (length index) (length out))) ≡ false → Filled kind old list index out)
+          go (same early is) = (λ q. rw e is, λ q. absurd (let z : _≡_ {A = ℕ} 0 1 = cc (rw e at q) in omega arith))
+          go (filled late places whole is) =
+              (λ q. absurd (let z : _≡_ {A = ℕ} 0 1 = cc (rw e at q) in omega arith), λ q. record { digits = n; places = places; whole = whole; is = rw e is })
+      index-by admitted.UnknownKind e = (λ q. rw e, λ q. absurd (let z : _≡_ {A = ℕ} 0 1 = cc (rw e at q) in omega arith))
+      index-by admitted.TooLarge e = (λ q. rw e, λ q. absurd (let z : _≡_ {A = ℕ} 0 1 = cc (rw e at q) in omega arith))
 
 pub demand-1 : Demand1
 demand-1 =
