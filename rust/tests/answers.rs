@@ -76,10 +76,12 @@ fn glances() {
     let bytes = file(&[format!("{} refs/s/a\n", id('1')), format!("{} refs/s/b\n", id('?'))]);
     let table = Table::new(KIND, &bytes);
     assert!(matches!(table.glance(b"refs/s/a"), Ok(Glance::Charted(_))));
-    assert_eq!(table.glance(b"refs/s/b"), Ok(Glance::Unreadable(Some(50))));
+    let Ok(Glance::Unreadable(hit)) = table.glance(b"refs/s/b") else { panic!() };
+    assert_eq!((hit.number(), hit.place()), (4, Some(50)));
     assert_eq!(table.glance(b"refs/s/c"), Ok(Glance::NotFound));
     assert_eq!(table.glance(b"refs").unwrap_err().number(), 3);
-    assert_eq!(Table::new(KIND, b"rubbish\n").glance(b"refs/s/a"), Ok(Glance::Unreadable(None)));
+    let Ok(Glance::Unreadable(miss)) = Table::new(KIND, b"rubbish\n").glance(b"refs/s/a") else { panic!() };
+    assert_eq!((miss.number(), miss.place()), (4, None));
     assert_eq!(Table::new(KIND, b"#\n").glance(b"refs/s/a").unwrap_err().number(), 2);
 }
 
@@ -89,7 +91,7 @@ fn errors_say_what_to_do() {
         header(b"# what\x1b[2J\n").unwrap_err(),
         check_name(b"x").unwrap_err(),
         Table::check(KIND, b"x\n").unwrap_err(),
-        merge(b"", &Edits::from_bytes(KIND, vec![9])).unwrap_err(),
+        merge(b"", &Edits::from_bytes(KIND, [9])).unwrap_err(),
         merge(b"", &Edits::from_bytes(KIND, b"\x00\x01x".to_vec())).unwrap_err(),
         merge(b"", &Edits::from_bytes(KIND, b"\x00\x03a/b\x00\x03a/b".to_vec())).unwrap_err(),
         loose(KIND, b"").unwrap_err(),
