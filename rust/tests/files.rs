@@ -152,10 +152,14 @@ fn a_lock_is_waited_for_and_given_back() {
     assert!(error.to_string().contains("table.lock is there: another program is writing"), "{error}");
     assert!(waited >= LOCK_WAIT && waited < 3 * LOCK_WAIT, "{waited:?}");
     // someone who needs it for less than that does not stop the next
-    let (begun, holder) = (Instant::now(), std::thread::spawn(move || std::thread::sleep(Duration::from_millis(300)) == drop(lock)));
+    let begun = Instant::now();
+    let holder = std::thread::spawn(move || {
+        std::thread::sleep(Duration::from_millis(300));
+        drop(lock);
+    });
     drop(Lock::take(&path, LOCK_WAIT).unwrap());
     assert!(begun.elapsed() >= Duration::from_millis(250) && begun.elapsed() < LOCK_WAIT);
-    assert!(holder.join().unwrap());
+    holder.join().unwrap();
     assert!(!dir.has("table.lock"));
     assert_eq!(dir.read("table"), b"old");
 }
