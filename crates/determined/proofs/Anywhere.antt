@@ -1,4 +1,4 @@
--- What C and Rust call: the same numbers and the same bytes give the same reply and leave the same memory, wherever the bytes lie and whenever the call is made.
+-- What C and Rust call: the proofs that the same numbers and the same bytes give the same reply and leave the same memory.
 use Rattle.determined.specs.Anywhere.{Called}
 use Rattle.determined.proofs.Law.{one, clauses-1, clauses-3}
 

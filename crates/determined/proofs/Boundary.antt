@@ -1,4 +1,4 @@
--- What C and Rust call, and the replies that it gives: any two outcomes allowed are the same.
+-- What C and Rust call, and the replies: the proofs that any two outcomes allowed are the same.
 use mathlib.Core.Path.{refl}
 use Rattle.determined.specs.Boundary.{Boundary}
 use Rattle.determined.proofs.Law.{one, same, by-answer, clauses-3}

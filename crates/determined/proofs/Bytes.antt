@@ -1,7 +1,7 @@
--- Bytes, lines, ids, order and names: any two outcomes allowed are the same.
+-- Bytes, lines, ids, order and names: the proofs that any two outcomes allowed are the same.
 use mathlib.Core.Path.{refl}
 use Rattle.determined.specs.Bytes.{Bytes}
-use Rattle.determined.proofs.Law.{one, by-answer, clauses-1}
+use Rattle.determined.proofs.Law.{by-answer, by-shown}
 
 pub bytes : Bytes
 bytes = record {
@@ -17,7 +17,7 @@ bytes = record {
   parse-until-line-end = λ m k o o′. by-answer k o o′ refl;
   parse-line-end = λ m k o o′. by-answer k o o′ refl;
   parse-past-byte = λ m k o o′. by-answer k o o′ refl;
-  parse-between = λ m k o o′. clauses-1 (m .𝓤) (λ p q. (one p q, refl));
+  parse-between = λ m k o o′. by-shown k o o′ refl;
   id-hex-hash = λ m k o o′. by-answer k o o′ refl;
   compare-compare = λ m k o o′. by-answer k o o′ refl;
   compare-is-less = λ m k o o′. by-answer k o o′ refl;

@@ -1,14 +1,14 @@
--- A file: its header, its records, where it starts, its items, its check, and loose content: any two outcomes allowed are the same.
+-- A file's header, records, start, items and check, and loose content: the proofs that any two outcomes allowed are the same.
 use mathlib.Core.Path.{refl}
 use Rattle.determined.specs.Files.{Files}
-use Rattle.determined.proofs.Law.{one, same, by-answer, clauses-1}
+use Rattle.determined.proofs.Law.{one, same, by-answer, by-shown, clauses-1}
 
 pub files : Files
 files = record {
   header-read-header = λ m k o o′. by-answer k o o′ refl;
   header-open = λ m k o o′. by-answer k o o′ refl;
   decode-reference = λ m k o o′. by-answer k o o′ refl;
-  decode-name-of = λ m k o o′. clauses-1 (m .𝓤) (λ p q. (one p q, refl));
+  decode-name-of = λ m k o o′. by-shown k o o′ refl;
   start-begin = λ m k o o′. by-answer k o o′ refl;
   start-begin-by = λ m k o o′. by-answer k o o′ refl;
   iter-next = λ m k o o′. by-answer k o o′ refl;
@@ -20,5 +20,5 @@ files = record {
   checks-check = λ m k o o′. by-answer k o o′ refl;
   checks-take-turn = λ m k o o′. by-answer k o o′ refl;
   loose-read = λ m k o o′. by-answer k o o′ refl;
-  loose-target-of = λ m k o o′. clauses-1 (m .𝓤) (λ p q. (one p q, refl));
+  loose-target-of = λ m k o o′. by-shown k o o′ refl;
 }

@@ -34,10 +34,14 @@ module _ {M : Type 1} (𝓤 : URA M) where
   clauses-3 {φ} {φ′} {ψ} {ψ′} {χ} {χ′} f = follows (both {φ = φ} (both {φ = ψ} (id⊢ 𝓤 (fact 𝓤 χ)))) (both {φ = φ′} (both {φ = ψ′} (id⊢ 𝓤 (fact 𝓤 χ′)))) f
 
 module _ {T : Ended} {c : Contract T} {m : Model} (k : Call T c m) (o o′ : Outcome T c m k) where
-  -- outcomes of equal parts are equal
+  -- outcomes of equal parts are equal. `lent` has a part for each parameter, in order, which is `tt` where nothing is lent for writing
   pub same : o .answer ≡ o′ .answer → o .lent ≡ o′ .lent → o ≡ o′
   same p q i = record { answer = p i; lent = q i }
 
   -- a contract of one clause that gives the answer, of a function that is lent nothing for writing
   pub by-answer : {d : Res (T .signature) (k .lifetimes)} → o .lent ≡ o′ .lent → ent (m .𝓤) (conj (m .𝓤) (fact (m .𝓤) (o .answer ≡ d)) (fact (m .𝓤) (o′ .answer ≡ d))) (fact (m .𝓤) (o ≡ o′))
   by-answer l = clauses-1 (m .𝓤) (λ p q. same (one p q) l)
+
+  -- the same of a function that hands back a part of the lent bytes, and whose contract gives what that shows
+  pub by-shown : {X : Type 0} {x y d : X} → o .lent ≡ o′ .lent → ent (m .𝓤) (conj (m .𝓤) (fact (m .𝓤) (x ≡ d)) (fact (m .𝓤) (y ≡ d))) (fact (m .𝓤) ((x ≡ y) × (o .lent ≡ o′ .lent)))
+  by-shown l = clauses-1 (m .𝓤) (λ p q. (one p q, l))

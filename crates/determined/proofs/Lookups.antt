@@ -1,4 +1,4 @@
--- Lookup, prefix listing and the lookup that can be trusted on any bytes: any two outcomes allowed are the same.
+-- Lookup, prefix listing and the lookup that can be trusted on any bytes: the proofs that any two outcomes allowed are the same.
 use mathlib.Core.Path.{refl}
 use Rattle.determined.specs.Lookups.{Lookups}
 use Rattle.determined.proofs.Law.{by-answer}

@@ -1,4 +1,4 @@
--- What is written, and the merge: any two outcomes allowed are the same.
+-- What is written, and the merge: the proofs that any two outcomes allowed are the same.
 use mathlib.Core.Path.{refl}
 use Rattle.determined.specs.Merges.{Merges}
 use Rattle.determined.proofs.Law.{one, same, by-answer, clauses-1, clauses-2, clauses-3}

@@ -1,4 +1,4 @@
--- What C and Rust call, and the replies that it gives: any two outcomes allowed are the same.
+-- What C and Rust call, and the replies: any two outcomes allowed are the same.
 use Rattle.reply.proofs.head.header_reply
 use Rattle.reply.proofs.head.name_number
 use Rattle.reply.proofs.walk.start_reply

@@ -1,4 +1,4 @@
--- Edits: their names, their order, reading one, and the prepared list: any two outcomes allowed are the same.
+-- Edits, their names and their order: any two outcomes allowed are the same.
 use denote.Ref.{now}
 use Rattle.places.proofs.name.comes_first
 use Rattle.places.proofs.name.same_name

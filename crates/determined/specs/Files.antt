@@ -1,4 +1,4 @@
--- A file: its header, its records, where it starts, its items, its check, and loose content: any two outcomes allowed are the same.
+-- A file's header, records, start, items and check, and loose content: any two outcomes allowed are the same.
 use denote.Ref.{now}
 use Rattle.header.proofs.read_header
 use Rattle.header.proofs.open as opening

@@ -1,1 +1,1 @@
-// Document 01: "prove that any two outcomes allowed are the same". See specs/Same.antt for the law, and the other files of specs/ for the functions that it holds for.
+// Document 01's "any two outcomes allowed are the same", a theorem for every public function: see specs/Outcomes.antt for what is stated, and the other files of specs/ for the functions.
