@@ -1,6 +1,7 @@
 //! The edit list, and the merge of an old file and its edits.
 use crate::table::refusal;
 use crate::{sys, Error, IdKind};
+use std::fmt;
 
 /// The longest name that an edit may have.
 const LONGEST_NAME: usize = 4096;
@@ -29,10 +30,18 @@ const HEADER_LEN: usize = 46;
 /// ```
 ///
 /// The order of the edits does not matter. Two edits of one name are refused by the merge (number 11), as is a 4,097th edit (9).
-#[derive(Clone, Debug, PartialEq, Eq)]
+#[derive(Clone, PartialEq, Eq)]
+#[must_use]
 pub struct Edits {
     kind: IdKind,
     list: Vec<u8>,
+}
+
+/// How long the list is, and not what stands in it.
+impl fmt::Debug for Edits {
+    fn fmt(&self, f: &mut fmt::Formatter<'_>) -> fmt::Result {
+        f.debug_struct("Edits").field("kind", &self.kind).field("bytes", &self.list.len()).finish()
+    }
 }
 
 impl Edits {
@@ -42,31 +51,33 @@ impl Edits {
     }
 
     /// An edit list that someone else wrote. It is read, and refused if need be, by the merge.
-    pub fn from_bytes(kind: IdKind, list: Vec<u8>) -> Edits {
-        Edits { kind, list }
+    pub fn from_bytes(kind: IdKind, list: impl Into<Vec<u8>>) -> Edits {
+        Edits { kind, list: list.into() }
     }
 
     /// The record of a name is to be removed; it need not be there.
-    pub fn delete(&mut self, name: &[u8]) -> Result<&mut Edits, Error> {
-        self.push(0, name, &[])
+    pub fn delete(&mut self, name: impl AsRef<[u8]>) -> Result<&mut Edits, Error> {
+        self.push(0, name.as_ref(), &[])
     }
 
     /// A name is to have an id, given in hex digits, and no peeled id. The record may be there or not.
-    pub fn update(&mut self, name: &[u8], id: &[u8]) -> Result<&mut Edits, Error> {
-        self.push(1, name, &[id])
+    pub fn update(&mut self, name: impl AsRef<[u8]>, id: impl AsRef<[u8]>) -> Result<&mut Edits, Error> {
+        self.push(1, name.as_ref(), &[id.as_ref()])
     }
 
     /// A name is to have an id and a peeled id, given in hex digits.
-    pub fn update_peeled(&mut self, name: &[u8], id: &[u8], peeled: &[u8]) -> Result<&mut Edits, Error> {
-        self.push(2, name, &[id, peeled])
+    pub fn update_peeled(&mut self, name: impl AsRef<[u8]>, id: impl AsRef<[u8]>, peeled: impl AsRef<[u8]>) -> Result<&mut Edits, Error> {
+        self.push(2, name.as_ref(), &[id.as_ref(), peeled.as_ref()])
     }
 
     /// The bytes of the list.
+    #[must_use]
     pub fn bytes(&self) -> &[u8] {
         &self.list
     }
 
     /// How long its ids are.
+    #[must_use]
     pub fn kind(&self) -> IdKind {
         self.kind
     }
@@ -113,7 +124,8 @@ fn put_raw(list: &mut Vec<u8>, id: &[u8], kind: IdKind) -> Option<()> {
 }
 
 /// What a merge comes to.
-#[derive(Clone, Debug, PartialEq, Eq)]
+#[derive(Clone, PartialEq, Eq)]
+#[must_use = "nothing is written yet"]
 pub enum Merged {
     /// The new file.
     New(Vec<u8>),
@@ -123,10 +135,22 @@ pub enum Merged {
     RemoveFile,
 }
 
+/// How long the new file is, and not what stands in it.
+impl fmt::Debug for Merged {
+    fn fmt(&self, f: &mut fmt::Formatter<'_>) -> fmt::Result {
+        match self {
+            Merged::New(bytes) => write!(f, "New({} bytes)", bytes.len()),
+            Merged::NothingToDo => f.write_str("NothingToDo"),
+            Merged::RemoveFile => f.write_str("RemoveFile"),
+        }
+    }
+}
+
 /// Merges edits into an old file, with or without header; empty bytes stand for no file at all. The new file has a header, and its records in
 /// name order, old ids as they were and new ones in lower-case digits.
 ///
-/// An old file that does not pass the check is refused (2, 4, 6), and so is a list with a fault (7, 8, 9, 11); then there is no new file.
+/// An old file that does not pass the check is refused (2, 4, 6), and so is a list with a fault (7, 8, 9, 11); then there is no new file. 12 says that
+/// there is not enough memory for one.
 ///
 /// ```
 /// use packed_refs::{merge, Edits, IdKind, Merged};
@@ -148,9 +172,10 @@ pub enum Merged {
 ///
 /// assert_eq!(merge(b"rubbish\n", &edits).unwrap_err().number(), 4);
 /// ```
-pub fn merge(old: &[u8], edits: &Edits) -> Result<Merged, Error> {
-    let mut index = vec![0; MOST_EDITS];
-    let mut out = vec![0; longest_new(old.len(), edits.list.len())];
+pub fn merge(old: impl AsRef<[u8]>, edits: &Edits) -> Result<Merged, Error> {
+    let old = old.as_ref();
+    let mut index = [0; MOST_EDITS];
+    let mut out = room(longest_new(old.len(), edits.list.len()));
     let said = sys::merge(edits.kind.number(), old, &edits.list, &mut index, &mut out);
     match said.number {
         0 => {
@@ -161,6 +186,15 @@ pub fn merge(old: &[u8], edits: &Edits) -> Result<Merged, Error> {
         14 => Ok(Merged::RemoveFile),
         number => Err(refusal(number, old, said.place, said.text_len)),
     }
+}
+
+/// So many bytes to be written over, or none where there is not enough memory: then the merge says that the room is too short (number 12).
+fn room(len: usize) -> Vec<u8> {
+    let mut out = Vec::new();
+    if out.try_reserve_exact(len).is_ok() {
+        out.resize(len, 0);
+    }
+    out
 }
 
 /// No new file is longer. What stays of the old one is not longer than it was. An edit's lines are at most twice as long as the edit: each raw

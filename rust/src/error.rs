@@ -1,4 +1,6 @@
-//! A refusal: its number, what is given beside it, and what to do.
+//! A refusal: its reason, with what is given beside its number.
+use crate::numbers::{Beside, Reason};
+use crate::Escaped;
 use std::fmt;
 
 /// How much of number 2's text an error keeps.
@@ -6,119 +8,188 @@ const KEPT: usize = 200;
 
 /// Why a question was not answered.
 ///
-/// The number is the one of docs/NUMBERS.md. It prints as a sentence with the number, what it means, where, and what to do:
+/// It prints as a sentence with the number of docs/NUMBERS.md, what it means, where, and what to do:
 ///
 /// ```
-/// use packed_refs::{IdKind, Table};
+/// use packed_refs::{IdKind, Reason, Table};
 /// let error = Table::check(IdKind::Sha1, b"no record\n").unwrap_err();
-/// assert_eq!(error.number(), 4);
+/// assert_eq!((error.number(), error.reason()), (4, Reason::BadRecord));
 /// assert_eq!(error.place(), Some(0));
-/// assert!(error.to_string().starts_with("number 4: a record can't be read; it starts at byte 0. "));
+/// assert!(error.to_string().starts_with("number 4: a record can't be read; it starts at byte 0. Do not send. "));
 /// ```
 ///
-/// 5 (absent), 13 (nothing to do) and 14 (remove the file) are answers and never come as an error.
-#[derive(Clone, Debug, PartialEq, Eq)]
+/// 0 (done), 5 (absent), 13 (nothing to do) and 14 (remove the file) are answers and never come as an error.
+#[derive(Clone, PartialEq, Eq)]
 pub struct Error {
-    number: u32,
+    reason: Reason,
     place: Option<usize>,
     text: Vec<u8>,
     text_len: usize,
 }
 
+/// What a reply gives beside its number, in one form for all replies. Which of it belongs to the number is the table's to say.
+#[derive(Clone, Copy, Default)]
+pub(crate) struct Given<'a> {
+    /// The reply's place, counted in the file or in the edit list.
+    pub place: Option<usize>,
+    /// Number 2's text.
+    pub text: &'a [u8],
+}
+
 impl Error {
-    pub(crate) fn new(number: u32) -> Error {
-        Error { number, place: None, text: Vec::new(), text_len: 0 }
+    /// The refusal of a call that gave this number. Where the number is no refusal that is a refusal too: nothing is guessed.
+    pub(crate) fn told(number: u32, given: Given<'_>) -> Error {
+        let reason = Reason::of(number);
+        let (place, text): (_, &[u8]) = match reason.row().beside {
+            Beside::Nothing => (None, b""),
+            Beside::FirstLine => (given.place, given.text),
+            Beside::Record | Beside::Edit => (given.place, b""),
+        };
+        Error { reason, place, text: text[..text.len().min(KEPT)].to_vec(), text_len: text.len() }
     }
 
+    /// The refusal of a call that gives nothing beside any number.
+    pub(crate) fn bare(number: u32) -> Error {
+        Error::told(number, Given::default())
+    }
+
+    /// The refusal of a call that gave a place.
     pub(crate) fn at(number: u32, place: usize) -> Error {
-        Error { place: Some(place), ..Error::new(number) }
+        Error::told(number, Given { place: Some(place), ..Given::default() })
     }
 
-    /// Number 2: the line that begins with `#` and is no header.
-    pub(crate) fn header(place: usize, text: &[u8]) -> Error {
-        let kept = &text[..text.len().min(KEPT)];
-        Error { number: 2, place: Some(place), text: kept.to_vec(), text_len: text.len() }
-    }
-
-    /// The refusal of a call that gave a number, with the place that goes with some of them.
-    pub(crate) fn told(number: u32, place: usize) -> Error {
-        match number {
-            4 | 6 | 7 | 8 | 9 | 11 => Error::at(number, place),
-            _ => Error::new(number),
-        }
+    /// Why, as a case to match on.
+    #[must_use]
+    pub fn reason(&self) -> Reason {
+        self.reason
     }
 
     /// The number of docs/NUMBERS.md.
+    #[must_use]
     pub fn number(&self) -> u32 {
-        self.number
+        self.reason.number()
     }
 
-    /// Where it happened, counted in bytes from 0: of a file for 2, 4 and 6, of an edit list for 7, 8, 9 and 11. The other numbers tell no place.
+    /// Where it happened, counted in bytes from 0: in the file ([`Error::place_in_file`]) or in the edit list ([`Error::place_in_edits`]).
+    #[must_use]
     pub fn place(&self) -> Option<usize> {
         self.place
     }
 
-    /// For 2 the line that is no header, without its line end, cut off behind 200 bytes; else nothing.
+    /// Where the line or the record starts that it is about, counted in the file, beside the numbers that give such a place.
+    #[must_use]
+    pub fn place_in_file(&self) -> Option<usize> {
+        match self.reason.row().beside {
+            Beside::FirstLine | Beside::Record => self.place,
+            Beside::Edit | Beside::Nothing => None,
+        }
+    }
+
+    /// Where the edit begins that it is about, counted in the edit list, beside the numbers that give such a place.
+    #[must_use]
+    pub fn place_in_edits(&self) -> Option<usize> {
+        match self.reason.row().beside {
+            Beside::Edit => self.place,
+            Beside::FirstLine | Beside::Record | Beside::Nothing => None,
+        }
+    }
+
+    /// For number 2 the line that is no header, without its line end, cut off behind 200 bytes; else nothing.
+    #[must_use]
     pub fn text(&self) -> &[u8] {
         &self.text
     }
 
     /// How long number 2's line is, however much of it was kept.
+    #[must_use]
     pub fn text_len(&self) -> usize {
         self.text_len
     }
 
     /// What the number means, in a few words.
+    #[must_use]
     pub fn meaning(&self) -> &'static str {
-        match self.number {
-            1 => "the id kind is neither 1 (40 digits) nor 2 (64)",
-            2 => "the first line begins with # and is no header",
-            3 => "the name breaks the name rules",
-            4 => "a record can't be read",
-            6 => "a name is not greater than the one before it",
-            7 => "the edit list is malformed",
-            8 => "a name in the edit list is empty, over 4,096 bytes, or breaks the name rules",
-            9 => "there are more than 4,096 edits",
-            10 => "the index is shorter than the number of edits",
-            11 => "two edits have one name",
-            12 => "the new file is longer than the room for it",
-            15 => "the loose content can't be read",
-            16 => "the symbolic target breaks the name rules",
-            17 => "an input is over 1,073,741,824 bytes",
-            _ => "the library gave a number that this program does not know",
-        }
+        self.reason.row().meaning
     }
 
-    /// What a person should do about it.
-    pub fn what_to_do(&self) -> &'static str {
-        match self.number {
-            1 | 10 | 12 => "Mend the call.",
-            2 => "Do not send. Look at the first line, and put back last night's file.",
-            3 => "Do not send. Mend the name; it was built wrongly.",
-            4 => "Do not send. Open the file at that place, and repair the line from last night's file.",
-            6 => "Do not send. Two files were mixed or a line was moved: sort out which.",
-            7 => "Mend the program that made the list.",
-            8 => "Mend that name.",
-            9 => "Make two lists of it.",
-            11 => "Decide which of the two is meant.",
-            15 | 16 => "Do not send. Look at the loose file.",
-            17 => "Do not send. The file is no table of references, or has to be split.",
-            _ => "Do not send. The program and the library do not belong together: build both anew.",
-        }
+    /// What the sender does, and what a person does about it.
+    #[must_use]
+    pub fn what_to_do(&self) -> String {
+        let row = self.reason.row();
+        format!("{} {}", row.sender, row.person)
     }
 }
 
 impl fmt::Display for Error {
     fn fmt(&self, f: &mut fmt::Formatter<'_>) -> fmt::Result {
-        write!(f, "number {}: {}", self.number, self.meaning())?;
-        match (self.number, self.place) {
-            (4 | 6, Some(place)) => write!(f, "; it starts at byte {place}")?,
-            (7 | 8 | 9 | 11, Some(place)) => write!(f, "; that edit begins at byte {place} of the list")?,
-            (2, Some(place)) if place > 0 => write!(f, "; it starts at byte {place}")?,
-            _ => {}
+        let row = self.reason.row();
+        write!(f, "number {}: {}", row.number, row.meaning)?;
+        match (row.beside, self.place) {
+            (Beside::Record, Some(place)) => write!(f, "; it starts at byte {place}")?,
+            (Beside::Edit, Some(place)) => write!(f, "; that edit begins at byte {place} of the list")?,
+            (Beside::FirstLine, Some(place)) => {
+                if place > 0 {
+                    write!(f, "; it starts at byte {place}")?;
+                }
+                write!(f, "; it reads '{}'", Escaped(&self.text))?;
+                if self.text_len > self.text.len() {
+                    write!(f, " and {} bytes more", self.text_len - self.text.len())?;
+                }
+            }
+            (Beside::Nothing, _) | (_, None) => {}
         }
-        write!(f, ". {}", self.what_to_do())
+        write!(f, ". {} {}", row.sender, row.person)
+    }
+}
+
+impl fmt::Debug for Error {
+    fn fmt(&self, f: &mut fmt::Formatter<'_>) -> fmt::Result {
+        let mut shown = f.debug_struct("Error");
+        shown.field("number", &self.number()).field("reason", &self.reason).field("place", &self.place);
+        if self.text_len > 0 {
+            shown.field("text", &Escaped(&self.text)).field("text_len", &self.text_len);
+        }
+        shown.finish()
     }
 }
 
 impl std::error::Error for Error {}
+
+#[cfg(test)]
+mod tests {
+    use super::*;
+    use crate::numbers::{ANSWERS, REFUSALS};
+
+    /// A number that this table does not know, and an answer where a refusal was asked for, are refusals that say so.
+    #[test]
+    fn a_foreign_number_is_never_an_answer() {
+        let answers = ANSWERS.iter().map(|row| row.number);
+        for number in answers.chain([18, 40, 46, 999, u32::MAX]) {
+            let error = Error::told(number, Given { place: Some(7), text: b"text" });
+            assert_eq!((error.number(), error.reason()), (number, Reason::Foreign(number)));
+            assert_eq!((error.place(), error.text()), (None, &b""[..]));
+            let words = error.to_string();
+            assert!(words.starts_with(&format!("number {number}: ")) && words.contains("Do not send."), "{words}");
+            assert!(words.contains("The program and the library do not belong together"), "{words}");
+        }
+    }
+
+    /// Whatever the number, the place and the text that belong to it are kept, and said.
+    #[test]
+    fn what_is_given_beside_a_number_is_kept() {
+        for reason in REFUSALS {
+            let row = reason.row();
+            let error = Error::told(row.number, Given { place: Some(70), text: b"# t\x1b" });
+            assert_eq!((error.number(), error.reason()), (row.number, *reason));
+            let words = error.to_string();
+            assert!(words.starts_with(&format!("number {}: {}", row.number, row.meaning)), "{words}");
+            assert!(words.ends_with(&format!(". {}", error.what_to_do())), "{words}");
+            assert_eq!(error.place().is_some(), row.beside != Beside::Nothing);
+            assert_eq!(words.contains("byte 70"), row.beside != Beside::Nothing, "{words}");
+            assert_eq!(error.text(), if row.beside == Beside::FirstLine { &b"# t\x1b"[..] } else { b"" });
+            assert_eq!(words.contains("# t\\x1b"), row.beside == Beside::FirstLine, "{words}");
+            assert_eq!(error.place_in_file().or(error.place_in_edits()), error.place());
+            assert_eq!(error.place_in_edits().is_some(), row.beside == Beside::Edit);
+        }
+    }
+}

@@ -9,8 +9,24 @@ use std::fmt;
 /// ```
 ///
 /// No two byte strings are shown alike, and a valid name never holds a backslash.
-#[derive(Clone, Copy, Debug)]
+///
+/// `{:?}` puts it in quotes and cuts it off behind 64 bytes, so that no answer's `Debug` prints a file.
+#[derive(Clone, Copy)]
 pub struct Escaped<'a>(pub &'a [u8]);
+
+/// More than this is not shown by `Debug`.
+const LONGEST_DEBUG: usize = 64;
+
+impl fmt::Debug for Escaped<'_> {
+    fn fmt(&self, f: &mut fmt::Formatter<'_>) -> fmt::Result {
+        let shown = &self.0[..self.0.len().min(LONGEST_DEBUG)];
+        write!(f, "\"{}\"", Escaped(shown))?;
+        match self.0.len() - shown.len() {
+            0 => Ok(()),
+            more => write!(f, " and {more} bytes more"),
+        }
+    }
+}
 
 impl fmt::Display for Escaped<'_> {
     fn fmt(&self, f: &mut fmt::Formatter<'_>) -> fmt::Result {

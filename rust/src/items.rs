@@ -1,10 +1,11 @@
 //! Iteration: records and damaged lines, one after another.
 use crate::escape::Escaped;
-use crate::{sys, IdKind, Record};
+use crate::{sys, IdKind, Reason, Record};
 use std::fmt;
 
 /// A part of a file that is no record.
-#[derive(Clone, Copy, Debug, PartialEq, Eq, Hash)]
+#[derive(Clone, Copy, PartialEq, Eq, Hash)]
+#[must_use]
 pub struct Damage<'a> {
     /// The item's number. It counts items and not lines: a header is item 1, a record with its `^` line is one item.
     pub item: u64,
@@ -14,9 +15,18 @@ pub struct Damage<'a> {
     pub text: &'a [u8],
 }
 
+impl fmt::Debug for Damage<'_> {
+    fn fmt(&self, f: &mut fmt::Formatter<'_>) -> fmt::Result {
+        let text = Escaped(self.text);
+        f.debug_struct("Damage").field("item", &self.item).field("place", &self.place).field("text", &text).finish()
+    }
+}
+
 impl fmt::Display for Damage<'_> {
     fn fmt(&self, f: &mut fmt::Formatter<'_>) -> fmt::Result {
-        write!(f, "number 4: a record can't be read; item {}, it starts at byte {}: {}", self.item, self.place, Escaped(self.text))
+        let row = Reason::BadRecord.row();
+        write!(f, "number {}: {}; item {}, it starts at byte {}: ", row.number, row.meaning, self.item, self.place)?;
+        write!(f, "{}", Escaped(self.text))
     }
 }
 
@@ -38,13 +48,24 @@ impl std::error::Error for Damage<'_> {}
 /// assert_eq!(b.peeled, Some(&b"3333333333333333333333333333333333333333"[..]));
 /// assert!(items.next().is_none());
 /// ```
-#[derive(Clone, Debug)]
+#[derive(Clone)]
+#[must_use = "the items are read as they are asked for"]
 pub struct Items<'a> {
     kind: IdKind,
     bytes: &'a [u8],
     prefix: Vec<u8>,
     place: usize,
     item: u64,
+}
+
+/// Where it is, and not what stands in the file.
+impl fmt::Debug for Items<'_> {
+    fn fmt(&self, f: &mut fmt::Formatter<'_>) -> fmt::Result {
+        let (bytes, prefix) = (self.bytes.len(), Escaped(&self.prefix));
+        let mut shown = f.debug_struct("Items");
+        shown.field("kind", &self.kind).field("bytes", &bytes).field("prefix", &prefix);
+        shown.field("place", &self.place).field("item", &self.item).finish()
+    }
 }
 
 impl<'a> Items<'a> {
@@ -54,11 +75,13 @@ impl<'a> Items<'a> {
     }
 
     /// Where the next item starts.
+    #[must_use]
     pub fn place(&self) -> usize {
         self.place
     }
 
     /// The next item's number.
+    #[must_use]
     pub fn item(&self) -> u64 {
         self.item
     }

@@ -2,7 +2,7 @@
 //!
 //! A sender asks the table of references whether a name is in it. Found means charted: stop. Absent means that it may be sent. Everything
 //! else means that the question was not answered: call someone. This crate is written so that **absent and unreadable never look
-//! alike**: only two calls can say *absent*, and both have seen that the whole file passes the check.
+//! alike**: only a call that has seen that the whole file passes the check can say *absent*.
 //!
 //! ```
 //! use packed_refs::{ask, Found, IdKind};
@@ -20,8 +20,14 @@
 //! | call | bytes | can say absent | cost |
 //! |---|---|---|---|
 //! | [`ask`] | any | yes, and it is worth the same on any bytes | one pass over the file |
+//! | [`ask_many`] | any | yes, as `ask` | one pass over the file for all names, two if it is damaged |
 //! | [`Checked::find`] | a file that passed [`Table::check`] | yes | a handful of probes |
 //! | [`Table::glance`] | any | **no**: [`Glance::NotFound`] is not worth *absent* | a handful of probes |
+//!
+//! # Files
+//!
+//! [`Opener`] reads a file whole or refuses it: one of zero bytes, one that changes meanwhile, one that is too large. What it gives is kept with its check
+//! in one value, a [`CheckedFile`]. [`merge_file`] merges edits into a file under its lock, and [`Lock`] replaces a file as a whole.
 //!
 //! # What is proved, and what is not
 //!
@@ -32,21 +38,40 @@
 //! Nothing is copied on reading: a [`Record`] borrows its name and its ids from the lent bytes.
 #![deny(unsafe_code)]
 #![deny(missing_docs)]
+#![deny(clippy::must_use_candidate)]
 
+#[forbid(unsafe_code)]
 mod edits;
+#[forbid(unsafe_code)]
 mod error;
+#[forbid(unsafe_code)]
 mod escape;
+#[forbid(unsafe_code)]
+mod file;
+#[forbid(unsafe_code)]
 mod items;
+#[forbid(unsafe_code)]
+mod lock;
+#[forbid(unsafe_code)]
 mod loose;
+#[forbid(unsafe_code)]
+mod many;
+#[forbid(unsafe_code)]
+pub mod numbers;
 #[allow(unsafe_code)]
 pub mod sys;
+#[forbid(unsafe_code)]
 mod table;
 
 pub use edits::{merge, Edits, Merged};
 pub use error::Error;
 pub use escape::Escaped;
+pub use file::{CheckedFile, OpenError, OpenTrouble, Opener, TableFile};
 pub use items::{Damage, Items};
+pub use lock::{merge_file, Lock, Lost, Rights, SaveError, SaveTrouble, Saved, LOCK_WAIT};
 pub use loose::{loose, Loose};
+pub use many::ask_many;
+pub use numbers::Reason;
 pub use table::{ask, check_name, header, Checked, Found, Glance, Header, Peeled, Record, Records, Table};
 
 /// The largest input that is taken: a file, a name, a prefix, an edit list or loose content. One byte more is refused with number 17.
@@ -69,6 +94,7 @@ impl IdKind {
     /// assert_eq!(IdKind::Sha1.digits(), 40);
     /// assert_eq!(IdKind::Sha256.digits(), 64);
     /// ```
+    #[must_use]
     pub fn digits(self) -> usize {
         match self {
             IdKind::Sha1 => 40,
@@ -77,6 +103,7 @@ impl IdKind {
     }
 
     /// The number that the boundary knows the kind by.
+    #[must_use]
     pub fn number(self) -> u32 {
         match self {
             IdKind::Sha1 => 1,

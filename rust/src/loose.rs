@@ -1,13 +1,24 @@
 //! The content of a loose reference file.
-use crate::{sys, Error, IdKind};
+use crate::{sys, Error, Escaped, IdKind};
+use std::fmt;
 
 /// What a loose reference says.
-#[derive(Clone, Copy, Debug, PartialEq, Eq, Hash)]
+#[derive(Clone, Copy, PartialEq, Eq, Hash)]
+#[must_use]
 pub enum Loose<'a> {
     /// An id, in hex digits as they stand there.
     Id(&'a [u8]),
     /// The valid name of another reference.
     Symbolic(&'a [u8]),
+}
+
+impl fmt::Debug for Loose<'_> {
+    fn fmt(&self, f: &mut fmt::Formatter<'_>) -> fmt::Result {
+        match self {
+            Loose::Id(id) => f.debug_tuple("Id").field(&Escaped(id)).finish(),
+            Loose::Symbolic(name) => f.debug_tuple("Symbolic").field(&Escaped(name)).finish(),
+        }
+    }
 }
 
 /// Reads the content of a loose reference file: number 15 where it can't be read, 16 where a symbolic target breaks the name rules.
@@ -18,10 +29,11 @@ pub enum Loose<'a> {
 /// assert_eq!(loose(IdKind::Sha1, b"ref: nonsense..\n").unwrap_err().number(), 16);
 /// assert_eq!(loose(IdKind::Sha1, b"\n").unwrap_err().number(), 15);
 /// ```
-pub fn loose(kind: IdKind, content: &[u8]) -> Result<Loose<'_>, Error> {
+pub fn loose<'a>(kind: IdKind, content: &'a (impl AsRef<[u8]> + ?Sized)) -> Result<Loose<'a>, Error> {
+    let content = content.as_ref();
     let said = sys::loose(kind.number(), content);
     if said.number != 0 {
-        return Err(Error::new(said.number));
+        return Err(Error::bare(said.number));
     }
     let part = &content[said.at..said.at + said.len];
     match said.what {

@@ -1,8 +1,12 @@
 //! A table of references in lent bytes: header, check, lookup, listing.
-use crate::{sys, Error, IdKind, Items};
+use crate::error::Given;
+use crate::numbers::Beside;
+use crate::{sys, Error, Escaped, IdKind, Items, Reason};
+use std::fmt;
 
 /// A record: its parts are parts of the lent bytes, ids as they stand there.
-#[derive(Clone, Copy, Debug, PartialEq, Eq, Hash)]
+#[derive(Clone, Copy, PartialEq, Eq, Hash)]
+#[must_use]
 pub struct Record<'a> {
     /// The name.
     pub name: &'a [u8],
@@ -27,8 +31,16 @@ impl<'a> Record<'a> {
     }
 }
 
+impl fmt::Debug for Record<'_> {
+    fn fmt(&self, f: &mut fmt::Formatter<'_>) -> fmt::Result {
+        let (name, id, peeled) = (Escaped(self.name), Escaped(self.id), self.peeled.map(Escaped));
+        f.debug_struct("Record").field("name", &name).field("id", &id).field("peeled", &peeled).field("place", &self.place).finish()
+    }
+}
+
 /// The answer of a lookup that can be trusted.
 #[derive(Clone, Copy, Debug, PartialEq, Eq, Hash)]
+#[must_use = "charted means stop, and absent means that it may be sent"]
 pub enum Found<'a> {
     /// A record of the file has the name: stop.
     Charted(Record<'a>),
@@ -37,20 +49,22 @@ pub enum Found<'a> {
 }
 
 /// The answer of a lookup in bytes that nobody checked.
-#[derive(Clone, Copy, Debug, PartialEq, Eq, Hash)]
+#[derive(Clone, Debug, PartialEq, Eq)]
+#[must_use]
 pub enum Glance<'a> {
     /// A record of the file has the name. That is worth as much as from a checked file: the record stands there.
     Charted(Record<'a>),
     /// The search met no record of the name. **This is not worth *absent***: a damaged line can lead the search astray, past a record
     /// that is there. Ask again with [`ask`].
     NotFound,
-    /// Something that the search looked at can't be read (number 4). The place is that of the record if it was hit, and none is told if it was not.
+    /// Something that the search looked at can't be read. The place is that of the record if it was hit, and none is told if it was not.
     /// (A record that was hit at the very front of the bytes behind the header is told without its place too.)
-    Unreadable(Option<usize>),
+    Unreadable(Error),
 }
 
 /// What a header says of peeled ids.
 #[derive(Clone, Copy, Debug, PartialEq, Eq, Hash)]
+#[must_use]
 pub enum Peeled {
     /// Nothing, or there is no header.
     Unspecified,
@@ -62,6 +76,7 @@ pub enum Peeled {
 
 /// The header of a file. A file without one has an unspecified, unsorted header that ends at 0.
 #[derive(Clone, Copy, Debug, PartialEq, Eq, Hash)]
+#[must_use]
 pub struct Header {
     /// What it says of peeled ids.
     pub peeled: Peeled,
@@ -81,7 +96,8 @@ pub struct Header {
 /// let error = header(b"# something else\n").unwrap_err();
 /// assert_eq!((error.number(), error.text()), (2, &b"# something else"[..]));
 /// ```
-pub fn header(file: &[u8]) -> Result<Header, Error> {
+pub fn header(file: impl AsRef<[u8]>) -> Result<Header, Error> {
+    let file = file.as_ref();
     let said = sys::header(file);
     match said.number {
         0 => Ok(Header {
@@ -105,10 +121,10 @@ pub fn header(file: &[u8]) -> Result<Header, Error> {
 /// assert!(check_name(b"refs/sent/ward4/o118/e3").is_ok());
 /// assert_eq!(check_name(b"refs/sent//e3").unwrap_err().number(), 3);
 /// ```
-pub fn check_name(name: &[u8]) -> Result<(), Error> {
-    match sys::name(name) {
+pub fn check_name(name: impl AsRef<[u8]>) -> Result<(), Error> {
+    match sys::name(name.as_ref()) {
         0 => Ok(()),
-        number => Err(Error::new(number)),
+        number => Err(Error::bare(number)),
     }
 }
 
@@ -129,8 +145,11 @@ pub fn check_name(name: &[u8]) -> Result<(), Error> {
 /// // without the damaged line it is
 /// assert_eq!(ask(IdKind::Sha1, &file[..50], b"refs/s/b"), Ok(Found::Absent));
 /// ```
-pub fn ask<'a>(kind: IdKind, file: &'a [u8], name: &[u8]) -> Result<Found<'a>, Error> {
-    let said = sys::ask(kind.number(), file, name);
+///
+/// Of many names [`ask_many`](crate::ask_many) says the same in one pass.
+pub fn ask<'a>(kind: IdKind, file: &'a (impl AsRef<[u8]> + ?Sized), name: impl AsRef<[u8]>) -> Result<Found<'a>, Error> {
+    let file = file.as_ref();
+    let said = sys::ask(kind.number(), file, name.as_ref());
     match said.number {
         0 => Ok(Found::Charted(Record::at(kind, file, said.place, said.name_at, said.name_len, said.peeled_at))),
         5 => Ok(Found::Absent),
@@ -139,16 +158,24 @@ pub fn ask<'a>(kind: IdKind, file: &'a [u8], name: &[u8]) -> Result<Found<'a>, E
 }
 
 /// The bytes of a file, as they are: nobody has checked them.
-#[derive(Clone, Copy, Debug)]
+#[derive(Clone, Copy)]
+#[must_use]
 pub struct Table<'a> {
     kind: IdKind,
     bytes: &'a [u8],
 }
 
+/// How long the file is, and not what stands in it.
+impl fmt::Debug for Table<'_> {
+    fn fmt(&self, f: &mut fmt::Formatter<'_>) -> fmt::Result {
+        f.debug_struct("Table").field("kind", &self.kind).field("bytes", &self.bytes.len()).finish()
+    }
+}
+
 impl<'a> Table<'a> {
     /// A table in lent bytes. Nothing is looked at yet.
-    pub fn new(kind: IdKind, bytes: &'a [u8]) -> Table<'a> {
-        Table { kind, bytes }
+    pub fn new(kind: IdKind, bytes: &'a (impl AsRef<[u8]> + ?Sized)) -> Table<'a> {
+        Table { kind, bytes: bytes.as_ref() }
     }
 
     /// The check of a whole file: every item is a record, and every name is greater than the one before. Only a table that passed it can say
@@ -168,7 +195,8 @@ impl<'a> Table<'a> {
     /// let error = Table::check(IdKind::Sha1, &twice).unwrap_err();
     /// assert_eq!((error.number(), error.place()), (6, Some(50)));
     /// ```
-    pub fn check(kind: IdKind, bytes: &'a [u8]) -> Result<Checked<'a>, Error> {
+    pub fn check(kind: IdKind, bytes: &'a (impl AsRef<[u8]> + ?Sized)) -> Result<Checked<'a>, Error> {
+        let bytes = bytes.as_ref();
         let said = sys::check(kind.number(), bytes);
         match said.number {
             0 => Ok(Checked { table: Table::new(kind, bytes), header: header(bytes)?, count: said.count }),
@@ -176,12 +204,19 @@ impl<'a> Table<'a> {
         }
     }
 
+    /// A table of which it is known that it passed the check, and what the check found.
+    pub(crate) fn known(kind: IdKind, bytes: &'a [u8], header: Header, count: usize) -> Checked<'a> {
+        Checked { table: Table { kind, bytes }, header, count }
+    }
+
     /// The bytes of the file.
+    #[must_use]
     pub fn bytes(&self) -> &'a [u8] {
         self.bytes
     }
 
     /// How long its ids are.
+    #[must_use]
     pub fn kind(&self) -> IdKind {
         self.kind
     }
@@ -200,8 +235,8 @@ impl<'a> Table<'a> {
     /// assert_eq!(table.glance(b"refs/s/z"), Ok(Glance::NotFound));
     /// assert!(matches!(ask(IdKind::Sha1, file, b"refs/s/z"), Ok(Found::Charted(_))));
     /// ```
-    pub fn glance(&self, name: &[u8]) -> Result<Glance<'a>, Error> {
-        self.glance_behind(header(self.bytes)?.body, name)
+    pub fn glance(&self, name: impl AsRef<[u8]>) -> Result<Glance<'a>, Error> {
+        self.glance_behind(header(self.bytes)?.body, name.as_ref())
     }
 
     /// The same behind a header that was read before.
@@ -210,9 +245,14 @@ impl<'a> Table<'a> {
         let said = sys::lookup(self.kind.number(), records, name);
         match said.number {
             0 => Ok(Glance::Charted(Record::at(self.kind, records, said.place, said.name_at, said.name_len, said.peeled_at).behind(body))),
-            4 => Ok(Glance::Unreadable((said.place != 0).then_some(said.place + body))),
             5 => Ok(Glance::NotFound),
-            number => Err(Error::new(number)),
+            number => {
+                let error = lookup_refusal(number, said.place, body);
+                match error.reason().row().beside {
+                    Beside::Record => Ok(Glance::Unreadable(error)),
+                    Beside::FirstLine | Beside::Edit | Beside::Nothing => Err(error),
+                }
+            }
         }
     }
 
@@ -230,7 +270,7 @@ impl<'a> Table<'a> {
     pub fn items_from(&self, place: usize, item: u64) -> Result<Items<'a>, Error> {
         match sys::step(self.kind.number(), self.bytes, self.bytes.len(), item).number {
             0 => Ok(Items::new(self.kind, self.bytes, b"", place, item)),
-            number => Err(Error::new(number)),
+            number => Err(Error::bare(number)),
         }
     }
 
@@ -241,13 +281,23 @@ impl<'a> Table<'a> {
     /// let file = b"1111111111111111111111111111111111111111 refs/s/a\n^3333333333333333333333333333333333333333\n";
     /// assert_eq!(Table::new(IdKind::Sha1, file).record_start(70), 0);
     /// ```
+    #[must_use]
     pub fn record_start(&self, place: usize) -> usize {
         sys::record_start(self.bytes, place)
     }
 }
 
-/// A table that passed the check. It can only be had from [`Table::check`].
+/// A table that passed the check. It can only be had from [`Table::check`] and [`CheckedFile::table`](crate::CheckedFile::table).
+///
+/// Its answers are not to be passed over:
+///
+/// ```compile_fail
+/// #![deny(unused_must_use)]
+/// # use packed_refs::{IdKind, Table};
+/// Table::check(IdKind::Sha1, b"").unwrap().len();
+/// ```
 #[derive(Clone, Copy, Debug)]
+#[must_use]
 pub struct Checked<'a> {
     table: Table<'a>,
     header: Header,
@@ -256,12 +306,12 @@ pub struct Checked<'a> {
 
 impl<'a> Checked<'a> {
     /// Looks a name up, in a handful of probes. An error is about the name alone: 3 where it breaks the name rules, 17 where it is too large.
-    pub fn find(&self, name: &[u8]) -> Result<Found<'a>, Error> {
-        match self.table.glance_behind(self.header.body, name)? {
+    pub fn find(&self, name: impl AsRef<[u8]>) -> Result<Found<'a>, Error> {
+        match self.table.glance_behind(self.header.body, name.as_ref())? {
             Glance::Charted(record) => Ok(Found::Charted(record)),
             Glance::NotFound => Ok(Found::Absent),
             // It is proved that this does not happen. If it did, it would still not be absent.
-            Glance::Unreadable(place) => Err(Error::told(4, place.unwrap_or(self.header.body))),
+            Glance::Unreadable(error) => Err(error),
         }
     }
 
@@ -283,21 +333,28 @@ impl<'a> Checked<'a> {
     /// let names: Vec<_> = table.with_prefix(b"refs/s/b").unwrap().map(|r| r.name).collect();
     /// assert_eq!(names, [b"refs/s/b/c"]);
     /// ```
-    pub fn with_prefix(&self, prefix: &[u8]) -> Result<Records<'a>, Error> {
+    pub fn with_prefix(&self, prefix: impl AsRef<[u8]>) -> Result<Records<'a>, Error> {
+        let prefix = prefix.as_ref();
         let body = self.header.body;
         let said = sys::prefix(self.table.kind.number(), &self.table.bytes[body..], prefix);
         match said.number {
             0 => Ok(Records(Items::new(self.table.kind, self.table.bytes, prefix, body + said.place, said.item))),
-            number => Err(Error::new(number)),
+            number => {
+                let records = &self.table.bytes[body..];
+                let text = records.get(said.text_at..said.text_at + said.text_len).unwrap_or_default();
+                Err(Error::told(number, Given { place: Some(body + said.text_at), text }))
+            }
         }
     }
 
     /// How many records there are.
+    #[must_use]
     pub fn len(&self) -> usize {
         self.count
     }
 
     /// Whether there is none.
+    #[must_use]
     pub fn is_empty(&self) -> bool {
         self.count == 0
     }
@@ -315,6 +372,7 @@ impl<'a> Checked<'a> {
 
 /// The records of a checked table.
 #[derive(Clone, Debug)]
+#[must_use = "the records are read as they are asked for"]
 pub struct Records<'a>(Items<'a>);
 
 impl<'a> Iterator for Records<'a> {
@@ -327,10 +385,28 @@ impl<'a> Iterator for Records<'a> {
 
 impl std::iter::FusedIterator for Records<'_> {}
 
-/// The refusal that goes with a number, with the place or the text that goes with it.
+/// The refusal of a call that was lent a whole file: its place, and its text, which stands at the front.
 pub(crate) fn refusal(number: u32, file: &[u8], place: usize, text_len: usize) -> Error {
-    match number {
-        2 => Error::header(0, &file[..text_len]),
-        _ => Error::told(number, place),
+    Error::told(number, Given { place: Some(place), text: &file[..text_len] })
+}
+
+/// The refusal of a lookup in the bytes behind a header that ends at `body`. Beside number 4, and beside it alone, a place of 0 may say that no record was
+/// hit: then none is told. Whatever other number gives a place, it is kept.
+fn lookup_refusal(number: u32, place: usize, body: usize) -> Error {
+    let is_told = Reason::of(number) != Reason::BadRecord || place != 0;
+    Error::told(number, Given { place: is_told.then_some(place + body), text: b"" })
+}
+
+#[cfg(test)]
+mod tests {
+    use super::*;
+
+    #[test]
+    fn a_hits_place_is_kept_whatever_its_number() {
+        let place = |number, place| lookup_refusal(number, place, 46).place();
+        assert_eq!((place(4, 50), place(4, 0)), (Some(96), None));
+        // no lookup gives 6 today; it stands for a number of a record that is new
+        assert_eq!((place(6, 50), place(6, 0)), (Some(96), Some(46)));
+        assert_eq!((place(3, 0), place(17, 0)), (None, None));
     }
 }

@@ -72,12 +72,12 @@ int fsync(int fd) {
 
 int rename(const char *from, const char *to) {
     if (enter()) return -1;
-    return leave("rename", syscall(SYS_rename, from, to));
+    return leave("rename", syscall(SYS_renameat2, AT_FDCWD, from, AT_FDCWD, to, 0));
 }
 
 int unlink(const char *path) {
     if (enter()) return -1;
-    return leave(strstr(path, ".lock") ? "unlink lock" : "unlink file", syscall(SYS_unlink, path));
+    return leave(strstr(path, ".lock") ? "unlink lock" : "unlink file", syscall(SYS_unlinkat, AT_FDCWD, path, 0));
 }
 
 int fchmod(int fd, mode_t mode) {

@@ -14,13 +14,15 @@ use Rattle.decode.specs.declared.reference.Record.{Record}
 use Rattle.header.specs.Header.{headerOf}
 use Rattle.checks.specs.declared.Verdict.{Verdict}
 use Rattle.checks.specs.declared.Verdict.the-variants as verdict
+use Rattle.checks.specs.declared.Refusal.{Refusal}
+use Rattle.checks.specs.declared.Refusal.the-variants.{BadHeader}
 use Rattle.iter.specs.Items.{items, bytesOf}
 use Rattle.checks.specs.Check.{judge, judgeBody, checkOf}
 use Rattle.checks.proofs.CheckMeans.{read}
 use Rattle.ask.specs.declared.Sought.{Sought}
 use Rattle.ask.specs.declared.Sought.the-variants.{At, Nowhere}
 use Rattle.ask.specs.declared.Told.the-variants as told
-use Rattle.ask.specs.Ask.{firstNamed, soughtFrom, unlessFound, askBody, askOf}
+use Rattle.ask.specs.Ask.{firstNamed, soughtFrom, orVerdict, unlessFound, askBody, askOf}
 use Rattle.iter.specs.Stands.{Named}
 use Rattle.ask.specs.Trusted.{Trusted}
 use Rattle.ask.proofs.FirstNamed.{NamedAmong, told-at, told-nowhere}
@@ -28,15 +30,11 @@ use Rattle.ask.proofs.FirstNamed.{NamedAmong, told-at, told-nowhere}
 -- only a clean verdict says absent
 clean : (v : Verdict) → unlessFound v ≡ told.Absent → (count : ℕ) × (v ≡ verdict.Clean count)
 clean (verdict.Clean count) e = (count, refl)
-clean (verdict.BadHeader k) e = (0, cc)
-clean (verdict.BadRecord place f) e = (0, cc)
-clean (verdict.Unsorted place) e = (0, cc)
+clean (verdict.Refused why) e = (0, cc)
 
 never-charted : (v : Verdict) {place : ℕ} {r : Record} → unlessFound v ≡ told.Charted place r → ⊥
 never-charted (verdict.Clean count) e = let z : _≡_ {A = ℕ} 0 1 = cc in omega arith
-never-charted (verdict.BadHeader k) e = let z : _≡_ {A = ℕ} 0 1 = cc in omega arith
-never-charted (verdict.BadRecord place f) e = let z : _≡_ {A = ℕ} 0 1 = cc in omega arith
-never-charted (verdict.Unsorted place) e = let z : _≡_ {A = ℕ} 0 1 = cc in omega arith
+never-charted (verdict.Refused why) e = let z : _≡_ {A = ℕ} 0 1 = cc in omega arith
 
 module _ (n : ℕ) (file name : List ℕ) where
   abbrev sought : Header → Sought
@@ -48,7 +46,7 @@ module _ (n : ℕ) (file name : List ℕ) where
   -- the four ways to an answer
   data Asked : Type 0 where
     bad-name : askOf paper n file name ≡ told.BadName → Asked
-    bad-header : {k : ℕ} → askOf paper n file name ≡ told.BadHeader k → Asked
+    bad-header : {why : Refusal} → askOf paper n file name ≡ told.Refused why → Asked
     charted : {h : Header} {place : ℕ} {r : Record} → headerOf paper file ≡ opened.Header h → sought h ≡ At place r
         → askOf paper n file name ≡ told.Charted place r → Asked
     nowhere : {h : Header} → headerOf paper file ≡ opened.Header h → sought h ≡ Nowhere → askOf paper n file name ≡ unlessFound (judged h) → Asked
@@ -59,7 +57,7 @@ module _ (n : ℕ) (file name : List ℕ) where
     where
       go : (t : Bool) → validName paper name ≡ t → (o : Opened) → headerOf paper file ≡ o → Asked
       go false v o q = bad-name (rw v)
-      go true v (opened.Unreadable k) q = bad-header {k = k} (rw (v, q))
+      go true v (opened.Unreadable k) q = bad-header {why = BadHeader k} (rw (v, q))
       go true v (opened.Header h) q = by (sought h) refl
         where
           by : (x : Sought) → sought h ≡ x → Asked
@@ -97,5 +95,40 @@ module _ (n : ℕ) (file name : List ℕ) where
         record { it = x .it; stands = record { before = x .before; after = x .after; all = x .all; here = refl }; good = x .good; name-is = x .name-is },
       )
 
+  -- ---- the other way
+
+  module _ (h : Header) (opens : headerOf paper file ≡ opened.Header h) (valid : validName paper name ≡ true) where
+    by-sought : askOf paper n file name ≡ orVerdict (sought h) (unlessFound (judged h))
+    unfolding askOf askBody soughtFrom judgeBody
+    by-sought = rw (valid, opens)
+
+    there : (inner : ℕ) (r : Record) → Named n (drop (h .body) file) name inner r
+        → (place : ℕ) × (first : Record) × (askOf paper n file name ≡ told.Charted place first)
+    there inner r x = go (sought h) refl
+      where
+        go : (s : Sought) → sought h ≡ s → (place : ℕ) × (first : Record) × (askOf paper n file name ≡ told.Charted place first)
+        go (At place first) e = (place, first, by-sought ∙ rw e)
+        go Nowhere e =
+            absurd
+            (told-nowhere n name (h .body) (x .stands .before) (x .it) (x .stands .after)
+            (ap (firstNamed n name (h .body)) (sym (x .stands .all)) ∙ e) (x .good) (x .name-is))
+
+    otherwise : ((inner : ℕ) (r : Record) → Named n (drop (h .body) file) name inner r → ⊥) → askOf paper n file name ≡ unlessFound (checkOf paper n file)
+    otherwise none-has = go (sought h) refl
+      where
+        go : (s : Sought) → sought h ≡ s → askOf paper n file name ≡ unlessFound (checkOf paper n file)
+        go (At place r) e =
+            let x : NamedAmong n name (h .body) (items paper n (drop (h .body) file)) place r = told-at n name (h .body) (items paper n (drop (h .body) file)) e in
+            absurd
+            (none-has (length (bytesOf (x .before))) r
+            (record { it = x .it; stands = record { before = x .before; after = x .after; all = x .all; here = refl }; good = x .good; name-is = x .name-is }))
+        go Nowhere e = by-sought ∙ rw e (ap unlessFound (sym (read paper n file opens)))
+
 pub trusted : (n : ℕ) (file name : List ℕ) → Trusted n file name
-trusted n file name = record { absent = absent n file name (asked n file name); charted = found n file name (asked n file name) }
+trusted n file name =
+    record {
+      absent = absent n file name (asked n file name);
+      charted = found n file name (asked n file name);
+      there = there n file name;
+      otherwise = otherwise n file name;
+    }

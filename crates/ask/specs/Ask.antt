@@ -13,15 +13,15 @@ use Rattle.header.specs.declared.Opened.the-variants.{Header, Unreadable}
 use Rattle.decode.specs.declared.reference.Reading.{Reading}
 use Rattle.decode.specs.declared.reference.Reading.the-variants.{Good, Bad}
 use Rattle.header.specs.Header.{headerOf}
-use Rattle.decode.specs.Record.{faultNumber}
 use Rattle.checks.specs.declared.Verdict.{Verdict}
 use Rattle.checks.specs.declared.Verdict.the-variants as verdict
+use Rattle.checks.specs.declared.Refusal.the-variants.{BadHeader}
 use Rattle.iter.specs.Items.{Item, items, nameOf}
-use Rattle.checks.specs.Check.{judgeBody}
+use Rattle.checks.specs.Check.{judgeBody, refusalNumber}
 use Rattle.ask.specs.declared.Sought.{Sought}
 use Rattle.ask.specs.declared.Sought.the-variants.{At, Nowhere}
 use Rattle.ask.specs.declared.Told.{Told}
-use Rattle.ask.specs.declared.Told.the-variants.{Charted, Absent, BadName, BadHeader, BadRecord, Unsorted}
+use Rattle.ask.specs.declared.Told.the-variants.{Charted, Absent, BadName, Refused}
 use Rattle.ask.specs.declared.AskAnswer.{AskAnswer}
 use Rattle.ask.specs.declared.AskAnswer.the-variants.{Done, UnknownKind, TooLarge}
 
@@ -48,16 +48,14 @@ orVerdict Nowhere v = v
 
 abbrev pub unlessFound : Verdict → Told
 unlessFound (verdict.Clean count) = Absent
-unlessFound (verdict.BadHeader k) = BadHeader k
-unlessFound (verdict.BadRecord place f) = BadRecord place f
-unlessFound (verdict.Unsorted place) = Unsorted place
+unlessFound (verdict.Refused why) = Refused why
 
 unfoldable pub askBody : Classes → ℕ → List ℕ → ℕ → List ℕ → Told
 askBody byte n file body name = orVerdict (soughtFrom byte n file body name) (unlessFound (judgeBody byte n file body))
 
 abbrev pub askOpened : Classes → ℕ → List ℕ → List ℕ → Opened → Told
 askOpened byte n file name (Header h) = askBody byte n file (h .body) name
-askOpened byte n file name (Unreadable k) = BadHeader k
+askOpened byte n file name (Unreadable k) = Refused (BadHeader k)
 
 unfoldable pub askOf : Classes → ℕ → List ℕ → List ℕ → Told
 askOf byte n file name = if (validName byte name) (askOpened byte n file name (headerOf byte file)) BadName
@@ -71,8 +69,6 @@ abbrev pub askNumber : AskAnswer → ℕ
 askNumber (Done (Charted place r)) = 0
 askNumber (Done Absent) = 5
 askNumber (Done BadName) = 3
-askNumber (Done (BadHeader k)) = 2
-askNumber (Done (BadRecord place f)) = faultNumber f
-askNumber (Done (Unsorted place)) = 6
+askNumber (Done (Refused why)) = refusalNumber why
 askNumber UnknownKind = 1
 askNumber TooLarge = 17

@@ -1,5 +1,6 @@
 -- What the lookup means that can be trusted on any bytes.
 use mathlib.Core.Path.{_≡_}
+use mathlib.Core.Bool.{true}
 use mathlib.Core.List.{List}
 use Prim.Native.Nat.{ℕ, _+_}
 use lib.ListN.{drop}
@@ -12,7 +13,8 @@ use Rattle.iter.specs.Stands.{Named}
 use Rattle.checks.specs.declared.Verdict.the-variants as verdict
 use Rattle.checks.specs.Check.{checkOf}
 use Rattle.ask.specs.declared.Told.the-variants as told
-use Rattle.ask.specs.Ask.{askOf}
+use Rattle.name.specs.Name.{validName}
+use Rattle.ask.specs.Ask.{unlessFound, askOf}
 
 pub record Trusted (n : ℕ) (file name : List ℕ) : Type 0 where
   -- absent: the file passes the check, and no record of it has the name
@@ -22,3 +24,9 @@ pub record Trusted (n : ℕ) (file name : List ℕ) : Type 0 where
   -- charted: a record of the file has the name, at the place told
   pub charted : (place : ℕ) (r : Record) → askOf paper n file name ≡ told.Charted place r
       → (h : Header) × (inner : ℕ) × (headerOf paper file ≡ opened.Header h) × (place ≡ h .body + inner) × Named n (drop (h .body) file) name inner r
+  -- and the other way, behind a header that can be read: a valid name that a record has is charted, whatever else stands in the file
+  pub there : (h : Header) → headerOf paper file ≡ opened.Header h → validName paper name ≡ true → (inner : ℕ) (r : Record)
+      → Named n (drop (h .body) file) name inner r → (place : ℕ) × (first : Record) × (askOf paper n file name ≡ told.Charted place first)
+  -- where none has it the answer is absent, or the check's refusal
+  pub otherwise : (h : Header) → headerOf paper file ≡ opened.Header h → validName paper name ≡ true
+      → ((inner : ℕ) (r : Record) → Named n (drop (h .body) file) name inner r → ⊥) → askOf paper n file name ≡ unlessFound (checkOf paper n file)

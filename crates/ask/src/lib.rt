@@ -2,8 +2,8 @@
 ghost use mathlib.Core.Path.{_≡_};
 ghost use Rattle.class.specs.Class.{classesOf};
 ghost use Rattle.ask.specs.Ask.{askOf, askAnswer, askBody, soughtFrom, orVerdict};
+use checks::Refusal;
 use checks::Turn;
-use decode::reference::Fault;
 use decode::reference::Reading;
 use decode::reference::Record;
 use header::Opened;
@@ -16,10 +16,8 @@ pub enum Told {
     Absent,
     // The wanted name breaks the name rules.
     BadName,
-    // No record has the name, and the file does not pass the check: the header, the first bad record, the first name out of order.
-    BadHeader(usize),
-    BadRecord { place: usize, fault: Fault },
-    Unsorted(usize),
+    // No record has the name, and the file does not pass the check.
+    Refused(Refusal),
 }
 
 pub enum AskAnswer {
@@ -48,14 +46,14 @@ pub fn ask(kind: u32, file: &[u8], name: &[u8]) -> AskAnswer
 }
 
 // The same by a table of byte classes and for ids of n digits.
-pub(crate) fn ask_by(t: &[u8; 256], n: usize, file: &[u8], name: &[u8]) -> Told
+pub fn ask_by(t: &[u8; 256], n: usize, file: &[u8], name: &[u8]) -> Told
     ensures { λ r. ⌜ r ≡ askOf (classesOf (now (t .entry))) n (now (file .entry)) (now (name .entry)) ⌝ }
 {
     if !name::is_valid_by(t, name) {
         return Told::BadName;
     }
     match header::open(t, file) {
-        Opened::Unreadable(text) => Told::BadHeader(text),
+        Opened::Unreadable(text) => Told::Refused(Refusal::BadHeader(text)),
         Opened::Header(h) => ask_body(t, n, file, h.body, name),
     }
 }
@@ -72,13 +70,9 @@ pub(crate) fn ask_body(t: &[u8; 256], n: usize, file: &[u8], body: usize, name: 
             Turn::End => {
                 return Told::Absent;
             }
-            Turn::Bad(fault) => {
+            Turn::Refused(why) => {
                 let sought = first_named(t, n, file, place, name);
-                return verdict_unless(sought, Told::BadRecord { place, fault });
-            }
-            Turn::Unsorted => {
-                let sought = first_named(t, n, file, place, name);
-                return verdict_unless(sought, Told::Unsorted(place));
+                return verdict_unless(sought, Told::Refused(why));
             }
             Turn::On(found) => {
                 last = decode::reference::name_of(&file[place..], n, found);

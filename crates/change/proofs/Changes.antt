@@ -11,7 +11,8 @@ use borrow.Author.Tests.{lt-ltb, le-ltb, le-leb, lt-leb, eq-eqb, ne-eqb, leb-tru
 use Rattle.class.specs.Class.{Classes}
 use Rattle.name.specs.Name.{validName}
 use Rattle.change.specs.declared.Length.the-variants as long
-use Rattle.change.specs.declared.Reading.the-variants.{Good, Malformed, BadName}
+use Rattle.change.specs.declared.Reading.the-variants.{Good, Bad}
+use Rattle.change.specs.declared.Fault.the-variants.{Malformed, BadName}
 use Rattle.change.specs.Change.{lengthAt, idBytes, namedChange, changeOf}
 
 module _ (s : List ℕ) (at : ℕ) where
@@ -45,16 +46,16 @@ module _ (byte : Classes) (n : ℕ) (s : List ℕ) where
   abbrev kind : ℕ
   kind = getD s 0 0
 
-  pub nothing : length s ≡ 0 → changeOf byte n s ≡ Malformed
+  pub nothing : length s ≡ 0 → changeOf byte n s ≡ Bad Malformed
   unfolding changeOf
   nothing h = rw (le-ltb 0 (length s) (omega arith))
 
-  pub bad-kind : 2 < kind → changeOf byte n s ≡ Malformed
+  pub bad-kind : 2 < kind → changeOf byte n s ≡ Bad Malformed
   unfolding changeOf
   bad-kind h = rw (lt-leb kind 2 h, and-false)
 
   module _ (some : 0 < length s) (known : kind ≤ 2) where
-    pub bad-length : lengthAt s 1 ≡ long.Malformed → changeOf byte n s ≡ Malformed
+    pub bad-length : lengthAt s 1 ≡ long.Malformed → changeOf byte n s ≡ Bad Malformed
     unfolding changeOf
     bad-length h = rw (lt-ltb 0 (length s) some, le-leb kind 2 known, h)
 
@@ -65,21 +66,21 @@ module _ (byte : Classes) (n : ℕ) (s : List ℕ) where
 -- ---- an edit behind its length
 
 module _ (byte : Classes) (s : List ℕ) (k from len ids : ℕ) where
-  pub empty-name : len ≡ 0 → namedChange byte s k from len ids ≡ BadName
+  pub empty-name : len ≡ 0 → namedChange byte s k from len ids ≡ Bad BadName
   unfolding namedChange
   empty-name h = rw (eq-eqb len 0 h)
 
-  pub long-name : 4096 < len → namedChange byte s k from len ids ≡ BadName
+  pub long-name : 4096 < len → namedChange byte s k from len ids ≡ Bad BadName
   unfolding namedChange
   long-name h = rw (lt-ltb 4096 len h, or-true)
 
   module _ (not-empty : len ≡ 0 → ⊥) (short : len ≤ 4096) where
-    pub cut-short : leb (from + len + ids) (length s) ≡ false → namedChange byte s k from len ids ≡ Malformed
+    pub cut-short : leb (from + len + ids) (length s) ≡ false → namedChange byte s k from len ids ≡ Bad Malformed
     unfolding namedChange
     cut-short h = rw (ne-eqb len 0 not-empty, le-ltb 4096 len short, h)
 
     module _ (whole : leb (from + len + ids) (length s) ≡ true) where
-      pub bad-name : validName byte (take len (drop from s)) ≡ false → namedChange byte s k from len ids ≡ BadName
+      pub bad-name : validName byte (take len (drop from s)) ≡ false → namedChange byte s k from len ids ≡ Bad BadName
       unfolding namedChange
       bad-name h = rw (ne-eqb len 0 not-empty, le-ltb 4096 len short, whole, h)
 

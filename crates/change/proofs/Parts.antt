@@ -15,7 +15,8 @@ use Rattle.places.specs.Name.{editName}
 use Rattle.change.specs.declared.Length.{Length}
 use Rattle.change.specs.declared.Length.the-variants as long
 use Rattle.change.specs.declared.Change.{Change}
-use Rattle.change.specs.declared.Reading.the-variants.{Good, Malformed, BadName}
+use Rattle.change.specs.declared.Reading.the-variants.{Good, Bad}
+use Rattle.change.specs.declared.Fault.the-variants.{Malformed, BadName}
 use Rattle.change.specs.Change.{lengthAt, measured, idBytes, namedChange, changeOf, behindName}
 use Rattle.change.proofs.Changes.{one-group, two-groups}
 
@@ -112,7 +113,7 @@ module _ (byte : Classes) (n : ℕ) (s : List ℕ) where
       where
         named : (len from : ℕ) → lengthAt s 1 ≡ long.Of len from → kind ≤ 2 → (bad : Bool)
             → (full : Bool) → leb (from + len + idBytes kind n) (length s) ≡ full → (valid : Bool) → validName byte (take len (drop from s)) ≡ valid
-            → if bad BadName (if full (if valid (Good (of-parts len from)) BadName) Malformed) ≡ Good c → Whole
+            → if bad (Bad BadName) (if full (if valid (Good (of-parts len from)) (Bad BadName)) (Bad Malformed)) ≡ Good c → Whole
         named len from m k true w q v p r = absurd (let z : _≡_ {A = ℕ} 0 1 = cc in omega arith)
         named len from m k false false q v p r = absurd (let z : _≡_ {A = ℕ} 0 1 = cc in omega arith)
         named len from m k false true q false p r = absurd (let z : _≡_ {A = ℕ} 0 1 = cc in omega arith)
@@ -120,7 +121,7 @@ module _ (byte : Classes) (n : ℕ) (s : List ℕ) where
             record { len = len; from = from; measure = m; known = k; fits = leb-true (from + len + idBytes kind n) (length s) q; valid = p; is = e ∙ sym r }
 
         go : (a : Bool) → (ltb 0 (length s) && leb kind 2) ≡ a → (l : Length) → lengthAt s 1 ≡ l
-            → if a (measured l (λ len from. namedChange byte s kind from len (idBytes kind n)) Malformed) Malformed ≡ Good c → Whole
+            → if a (measured l (λ len from. namedChange byte s kind from len (idBytes kind n)) (Bad Malformed)) (Bad Malformed) ≡ Good c → Whole
         go false t l m q = absurd (let z : _≡_ {A = ℕ} 0 1 = cc in omega arith)
         go true t long.Malformed m q = absurd (let z : _≡_ {A = ℕ} 0 1 = cc in omega arith)
         go true t (long.Of len from) m q =

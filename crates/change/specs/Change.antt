@@ -10,7 +10,9 @@ use Rattle.name.specs.Name.{validName}
 use Rattle.change.specs.declared.Length.{Length}
 use Rattle.change.specs.declared.Length.the-variants as long
 use Rattle.change.specs.declared.Reading.{Reading}
-use Rattle.change.specs.declared.Reading.the-variants.{Good, Malformed, BadName}
+use Rattle.change.specs.declared.Reading.the-variants.{Good, Bad}
+use Rattle.change.specs.declared.Fault.{Fault}
+use Rattle.change.specs.declared.Fault.the-variants.{Malformed, BadName}
 
 -- "Name length in groups of seven bits, low group first, top bit set on all but the last; one or two groups, second not zero."
 unfoldable pub lengthAt : List ℕ → ℕ → Length
@@ -35,10 +37,10 @@ idBytes kind n = kind * (n / 2)
 -- name rules (8)"
 unfoldable pub namedChange : Classes → List ℕ → ℕ → ℕ → ℕ → ℕ → Reading
 namedChange byte s kind from len ids =
-    if (eqb len 0 || ltb 4096 len) BadName
+    if (eqb len 0 || ltb 4096 len) (Bad BadName)
     (if (leb (from + len + ids) (length s))
-    (if (validName byte (take len (drop from s))) (Good (record { kind = kind; from = from; name = len; size = from + len + ids })) BadName)
-    Malformed)
+    (if (validName byte (take len (drop from s))) (Good (record { kind = kind; from = from; name = len; size = from + len + ids })) (Bad BadName))
+    (Bad Malformed))
 
 -- "In each edit: kind (7), length form, an unfinished length included (7), length 0 or over 4,096 (8), cut short anywhere behind it (7),
 -- name rules (8)." "Kind byte: 0 delete, 1 update, 2 update with peeled id."
@@ -46,8 +48,13 @@ unfoldable pub changeOf : Classes → ℕ → List ℕ → Reading
 changeOf byte n s =
     let kind = getD s 0 0 in
     if (ltb 0 (length s) && leb kind 2)
-    (measured (lengthAt s 1) (λ len from. namedChange byte s kind from len (idBytes kind n)) Malformed)
-    Malformed
+    (measured (lengthAt s 1) (λ len from. namedChange byte s kind from len (idBytes kind n)) (Bad Malformed))
+    (Bad Malformed)
+
+-- the paper's number for each fault: "edit list malformed"; "edit name empty, over 4,096 bytes, or breaking the name rules"
+abbrev pub editFaultNumber : Fault → ℕ
+editFaultNumber Malformed = 7
+editFaultNumber BadName = 8
 
 -- what stands behind the name of the edit at a place: its ids
 unfoldable pub behindName : List ℕ → ℕ → List ℕ

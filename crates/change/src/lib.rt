@@ -23,10 +23,17 @@ pub struct Change {
     pub size: usize,
 }
 
+// Why an edit can't be taken.
+pub enum Fault {
+    // The kind is unknown, the length has no form that a length has, or the edit is cut short.
+    Malformed,
+    // A name that is empty, too long, or breaks the name rules.
+    BadName,
+}
+
 pub enum Reading {
     Good(Change),
-    Malformed,
-    BadName,
+    Bad(Fault),
 }
 
 // The length that stands at a place: groups of seven bits, low group first, top bit set on all but the last.
@@ -62,14 +69,14 @@ pub fn read(t: &[u8; 256], n: usize, s: &[u8]) -> Reading
     ensures { λ r. ⌜ r ≡ changeOf (classesOf (now (t .entry))) n (now (s .entry)) ⌝ }
 {
     if s.len() == 0 {
-        return Reading::Malformed;
+        return Reading::Bad(Fault::Malformed);
     }
     let kind = s[0];
     if 2 < kind {
-        return Reading::Malformed;
+        return Reading::Bad(Fault::Malformed);
     }
     let Length::Of { value, next } = length_at(s, 1) else {
-        return Reading::Malformed;
+        return Reading::Bad(Fault::Malformed);
     };
     behind_length(t, s, kind, next, value, wide(kind) * (n / 2))
 }
@@ -79,22 +86,23 @@ fn behind_length(t: &[u8; 256], s: &[u8], kind: u8, from: usize, len: usize, ids
     ensures { λ r. ⌜ r ≡ namedChange (classesOf (now (t .entry))) (now (s .entry)) kind from len ids ⌝ }
 {
     if len == 0 {
-        return Reading::BadName;
+        return Reading::Bad(Fault::BadName);
     }
     if 4096 < len {
-        return Reading::BadName;
+        return Reading::Bad(Fault::BadName);
     }
     if !stands(s, from, len, ids) {
-        return Reading::Malformed;
+        return Reading::Bad(Fault::Malformed);
     }
     if !name::is_valid_by(t, parse::part::between(s, from, from + len)) {
-        return Reading::BadName;
+        return Reading::Bad(Fault::BadName);
     }
+    let size = from + len + ids;
     Reading::Good(Change {
         kind,
         from,
         name: len,
-        size: from + len + ids,
+        size,
     })
 }
 

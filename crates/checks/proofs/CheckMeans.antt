@@ -9,14 +9,15 @@ use Rattle.header.specs.declared.Opened.{Opened}
 use Rattle.header.specs.declared.Opened.the-variants as opened
 use Rattle.header.specs.Header.{headerOf}
 use Rattle.checks.specs.declared.Verdict.{Verdict}
-use Rattle.checks.specs.declared.Verdict.the-variants.{Clean, BadHeader, BadRecord, Unsorted}
+use Rattle.checks.specs.declared.Verdict.the-variants.{Clean, Refused}
+use Rattle.checks.specs.declared.Refusal.the-variants.{BadHeader, BadRecord, Unsorted}
 use Rattle.iter.specs.Items.{items}
 use Rattle.checks.specs.Check.{judge, judgeBody, checkOf}
 use Rattle.checks.specs.CheckMeans.{Means, CheckMeans}
 use Rattle.checks.proofs.Passes.{judges, judges-error, judges-unsorted, Says, says}
 
 module _ (byte : Classes) (n : ℕ) (file : List ℕ) where
-  unread : {text : ℕ} → headerOf byte file ≡ opened.Unreadable text → checkOf byte n file ≡ BadHeader text
+  unread : {text : ℕ} → headerOf byte file ≡ opened.Unreadable text → checkOf byte n file ≡ Refused (BadHeader text)
   unfolding checkOf
   unread e = rw e
 
@@ -29,9 +30,9 @@ module _ (byte : Classes) (n : ℕ) (file : List ℕ) where
     where
       of-body : (h : Header) → headerOf byte file ≡ opened.Header h → (v : Verdict) → Says n (h .body) (items byte n (drop (h .body) file)) v → Means byte n file v
       of-body h q (Clean count) x = record { header = h; reads = q; holds = x }
-      of-body h q (BadHeader text) x = absurd x
-      of-body h q (BadRecord place f) x = record { header = h; reads = q; holds = x }
-      of-body h q (Unsorted place) x = record { header = h; reads = q; holds = x }
+      of-body h q (Refused (BadHeader text)) x = absurd x
+      of-body h q (Refused (BadRecord place f)) x = record { header = h; reads = q; holds = x }
+      of-body h q (Refused (Unsorted place)) x = record { header = h; reads = q; holds = x }
 
       go : (o : Opened) → headerOf byte file ≡ o → Means byte n file (checkOf byte n file)
       go (opened.Header h) q = of-body h q (checkOf byte n file) (rw (read q) (says n (h .body) (items byte n (drop (h .body) file))))
@@ -39,9 +40,9 @@ module _ (byte : Classes) (n : ℕ) (file : List ℕ) where
 
   only-then : (v : Verdict) → Means byte n file v → checkOf byte n file ≡ v
   only-then (Clean count) b = read (b .reads) ∙ judges n _ _ (b .holds)
-  only-then (BadHeader text) e = unread e
-  only-then (BadRecord place f) b = read (b .reads) ∙ judges-error n _ _ (b .holds)
-  only-then (Unsorted place) b = read (b .reads) ∙ judges-unsorted n _ _ (b .holds)
+  only-then (Refused (BadHeader text)) e = unread e
+  only-then (Refused (BadRecord place f)) b = read (b .reads) ∙ judges-error n _ _ (b .holds)
+  only-then (Refused (Unsorted place)) b = read (b .reads) ∙ judges-unsorted n _ _ (b .holds)
 
   pub check-means : CheckMeans byte n file
   check-means v = (λ e. rw e at means, only-then v)

@@ -14,7 +14,9 @@ use Rattle.decode.specs.declared.reference.Reading.{Reading}
 use Rattle.decode.specs.declared.reference.Reading.the-variants.{Good, Bad}
 use Rattle.decode.specs.Record.{recordOf}
 use Rattle.checks.specs.declared.Turn.{Turn}
-use Rattle.checks.specs.declared.Turn.the-variants.{End, On, Unsorted, Bad as Faulty}
+use Rattle.checks.specs.declared.Turn.the-variants.{End, On, Refused}
+use Rattle.checks.specs.declared.Refusal.{Refusal}
+use Rattle.checks.specs.declared.Refusal.the-variants.{BadHeader, BadRecord, Unsorted}
 use Rattle.checks.specs.declared.Verdict.{Verdict}
 use Rattle.checks.specs.declared.Verdict.the-variants as verdict
 use Rattle.iter.specs.Items.{items}
@@ -47,28 +49,33 @@ module _ (s : Spot) where
   unfolding turnOf
   turn-end h = rw (le-ltb (s .place) (length (s .file)) h)
 
-  pub turn-is : (w : Reading) → Read w → turnAt ≡ turnBy (s .n) (s .last) (drop (s .place) (s .file)) w
+  pub turn-is : (w : Reading) → Read w → turnAt ≡ turnBy (s .n) (s .last) (drop (s .place) (s .file)) (s .place) w
   unfolding turnOf
   turn-is w k = rw (lt-ltb (s .place) (length (s .file)) (k .inside), k .is)
 
   -- ---- what a turn tells
 
+  -- a refusal is told with the turn's place, and no turn speaks of the header
+  abbrev pub Stopped : Refusal → Type 0
+  Stopped (BadHeader text) = ⊥
+  Stopped (BadRecord place f) = (place ≡ s .place) × Read (Bad f)
+  Stopped (Unsorted place) = (place ≡ s .place) × (r : Record) × Read (Good r) × (smaller (s .last) (nameHere r) ≡ false)
+
   abbrev pub Turned : Turn → Type 0
   Turned End = length (s .file) ≤ s .place
   Turned (On r) = Read (Good r) × (smaller (s .last) (nameHere r) ≡ true)
-  Turned Unsorted = (r : Record) × Read (Good r) × (smaller (s .last) (nameHere r) ≡ false)
-  Turned (Faulty f) = Read (Bad f)
+  Turned (Refused why) = Stopped why
 
-  by-order : (r : Record) → Read (Good r) → (b : Bool) → smaller (s .last) (nameHere r) ≡ b → Turned (if b (On r) Unsorted)
+  by-order : (r : Record) → Read (Good r) → (b : Bool) → smaller (s .last) (nameHere r) ≡ b → Turned (if b (On r) (Refused (Unsorted (s .place))))
   by-order r k true e = (k, e)
-  by-order r k false e = (r, k, e)
+  by-order r k false e = (refl, r, k, e)
 
-  by-reading : (w : Reading) → Read w → Turned (turnBy (s .n) (s .last) (drop (s .place) (s .file)) w)
+  by-reading : (w : Reading) → Read w → Turned (turnBy (s .n) (s .last) (drop (s .place) (s .file)) (s .place) w)
   by-reading (Good r) k = by-order r k (smaller (s .last) (nameHere r)) refl
-  by-reading (Bad f) k = k
+  by-reading (Bad f) k = (refl, k)
 
   by-place : (b : Bool) → ltb (s .place) (length (s .file)) ≡ b
-      → Turned (if b (turnBy (s .n) (s .last) (drop (s .place) (s .file)) (recordOf (s .byte) (s .n) (drop (s .place) (s .file)))) End)
+      → Turned (if b (turnBy (s .n) (s .last) (drop (s .place) (s .file)) (s .place) (recordOf (s .byte) (s .n) (drop (s .place) (s .file)))) End)
   by-place true e =
       by-reading (recordOf (s .byte) (s .n) (drop (s .place) (s .file)))
       (record { inside = ltb-true (s .place) (length (s .file)) e; is = refl })
@@ -84,8 +91,7 @@ module _ (s : Spot) where
   judgedAfter count End = verdict.Clean count
   judgedAfter count (On r) =
       judge (s .n) (s .place + r .size) (suc count) (nameHere r) (items (s .byte) (s .n) (drop (s .place + r .size) (s .file)))
-  judgedAfter count Unsorted = verdict.Unsorted (s .place)
-  judgedAfter count (Faulty f) = verdict.BadRecord (s .place) f
+  judgedAfter count (Refused why) = verdict.Refused why
 
   module _ (r : Record) (k : Read (Good r)) where
     head : HeadItem (s .byte) (s .n) (s .file) (s .place) (Good r) (r .size)
@@ -95,5 +101,7 @@ module _ (s : Spot) where
       → judge (s .n) (s .place) count (s .last) (items (s .byte) (s .n) (drop (s .place) (s .file))) ≡ judgedAfter count w
   judged count End h = rw (drop-of-length-le (s .file) h, items-nil (s .byte) (s .n))
   judged count (On r) (k, e) = let h = head r k in rw (h .all, h .is, h .name, h .long, e)
-  judged count Unsorted (r, k, e) = let h = head r k in rw (h .all, h .is, h .name, h .long, e)
-  judged count (Faulty f) k = let h = head-bad (s .byte) (s .n) (s .file) (s .place) (k .inside) f (k .is) in rw (h .all, h .is)
+  judged count (Refused (BadHeader text)) x = absurd x
+  judged count (Refused (BadRecord place f)) (here, k) =
+      let h = head-bad (s .byte) (s .n) (s .file) (s .place) (k .inside) f (k .is) in rw (here, h .all, h .is)
+  judged count (Refused (Unsorted place)) (here, r, k, e) = let h = head r k in rw (here, h .all, h .is, h .name, h .long, e)

@@ -14,7 +14,9 @@ use Rattle.decode.specs.declared.reference.Fault.{Fault}
 use Rattle.decode.specs.declared.reference.Reading.{Reading}
 use Rattle.decode.specs.declared.reference.Reading.the-variants.{Good, Bad}
 use Rattle.checks.specs.declared.Verdict.{Verdict}
-use Rattle.checks.specs.declared.Verdict.the-variants.{Clean, BadHeader, BadRecord, Unsorted}
+use Rattle.checks.specs.declared.Verdict.the-variants.{Clean, Refused}
+use Rattle.checks.specs.declared.Refusal.{Refusal}
+use Rattle.checks.specs.declared.Refusal.the-variants.{BadHeader, BadRecord, Unsorted}
 use Rattle.iter.specs.Items.{Item, bytesOf, nameOf}
 use Rattle.checks.specs.Check.{orElse, judge}
 use Rattle.checks.specs.Passes.{isGood, allGood, ascending, Passes, lastName, FirstFault, FirstError, FirstUnsorted}
@@ -47,12 +49,12 @@ not-less Less h = absurd (h refl)
 not-less Equal h = refl
 not-less Greater h = refl
 
-abbrev verdict : {n : ℕ} {last : List ℕ} {i : Item} → Stop n last i → ℕ → Verdict
-verdict (error f e) place = BadRecord place f
-verdict (unsorted g u) place = Unsorted place
+abbrev refusal : {n : ℕ} {last : List ℕ} {i : Item} → Stop n last i → ℕ → Refusal
+refusal (error f e) place = BadRecord place f
+refusal (unsorted g u) place = Unsorted place
 
 module _ (n place count : ℕ) (last : List ℕ) (i : Item) (l : List Item) where
-  judge-stop : (x : Stop n last i) → judge n place count last (i ∷ l) ≡ verdict x place
+  judge-stop : (x : Stop n last i) → judge n place count last (i ∷ l) ≡ Refused (refusal x place)
   judge-stop (error f e) = rw e
   judge-stop (unsorted g u) = rw (good-else (i .what) place _ g, not-less (orderOf last (nameOf n i)) u)
 
@@ -104,7 +106,7 @@ module _ (n begin : ℕ) (l : List Item) where
   judge-passes g u = rw (append-nil l) at (judge-past n begin 0 [] l [] g u)
 
   judge-stops : {before : List Item} {it : Item} → Reached n [] l before it → (x : Stop n (lastName n [] before) it)
-      → judge n begin 0 [] l ≡ verdict x (begin + length (bytesOf before))
+      → judge n begin 0 [] l ≡ Refused (refusal x (begin + length (bytesOf before)))
   judge-stops {before} {it} r x =
       ap (judge n begin 0 []) (r .all) ∙ judge-past n begin 0 [] before (it ∷ r .after) (r .good) (r .up)
       ∙ judge-stop n (begin + length (bytesOf before)) (0 + length before) (lastName n [] before) it (r .after) x
@@ -117,19 +119,19 @@ module _ (n begin : ℕ) (l : List Item) where
   reached : {place : ℕ} → (x : FirstFault n begin l place) → Reached n [] l (x .before) (x .it)
   reached x = record { after = x .after; all = x .all; good = x .good; up = x .up }
 
-  pub judges-error : {place : ℕ} {f : Fault} → FirstError n begin l place f → judge n begin 0 [] l ≡ BadRecord place f
+  pub judges-error : {place : ℕ} {f : Fault} → FirstError n begin l place f → judge n begin 0 [] l ≡ Refused (BadRecord place f)
   judges-error {place} {f} h = rw (h .first .here) (judge-stops (reached (h .first)) (error f (h .is)))
 
-  pub judges-unsorted : {place : ℕ} → FirstUnsorted n begin l place → judge n begin 0 [] l ≡ Unsorted place
+  pub judges-unsorted : {place : ℕ} → FirstUnsorted n begin l place → judge n begin 0 [] l ≡ Refused (Unsorted place)
   judges-unsorted h = rw (h .first .here) (judge-stops (reached (h .first)) (unsorted (h .good) (h .not-greater)))
 
   -- and back: what a verdict says of the items, and that it is true
 
   abbrev pub Says : Verdict → Type 0
   Says (Clean m) = Passes n l m
-  Says (BadHeader text) = ⊥
-  Says (BadRecord place f) = FirstError n begin l place f
-  Says (Unsorted place) = FirstUnsorted n begin l place
+  Says (Refused (BadHeader text)) = ⊥
+  Says (Refused (BadRecord place f)) = FirstError n begin l place f
+  Says (Refused (Unsorted place)) = FirstUnsorted n begin l place
 
   abbrev fault : {before : List Item} {it : Item} → Reached n [] l before it → FirstFault n begin l (begin + length (bytesOf before))
   fault {before} {it} r = record { before = before; it = it; after = r .after; all = r .all; good = r .good; up = r .up; here = refl }
@@ -145,8 +147,8 @@ module _ (n begin : ℕ) (l : List Item) where
   pub judged : {m : ℕ} → judge n begin 0 [] l ≡ Clean m → Passes n l m
   judged v = rw v at says
 
-  pub first-error : {place : ℕ} {f : Fault} → judge n begin 0 [] l ≡ BadRecord place f → FirstError n begin l place f
+  pub first-error : {place : ℕ} {f : Fault} → judge n begin 0 [] l ≡ Refused (BadRecord place f) → FirstError n begin l place f
   first-error v = rw v at says
 
-  pub first-unsorted : {place : ℕ} → judge n begin 0 [] l ≡ Unsorted place → FirstUnsorted n begin l place
+  pub first-unsorted : {place : ℕ} → judge n begin 0 [] l ≡ Refused (Unsorted place) → FirstUnsorted n begin l place
   first-unsorted v = rw v at says

@@ -14,7 +14,9 @@ use Rattle.decode.specs.declared.reference.Reading.the-variants.{Good, Bad}
 use Rattle.header.specs.Header.{headerOf}
 use Rattle.decode.specs.Record.{recordOf, faultNumber}
 use Rattle.checks.specs.declared.Verdict.{Verdict}
-use Rattle.checks.specs.declared.Verdict.the-variants.{Clean, BadHeader, BadRecord, Unsorted}
+use Rattle.checks.specs.declared.Verdict.the-variants.{Clean, Refused}
+use Rattle.checks.specs.declared.Refusal.{Refusal}
+use Rattle.checks.specs.declared.Refusal.the-variants.{BadHeader, BadRecord, Unsorted}
 use Rattle.checks.specs.declared.CheckAnswer.{CheckAnswer}
 use Rattle.checks.specs.declared.CheckAnswer.the-variants.{Done, UnknownKind, TooLarge}
 use Rattle.checks.specs.declared.Turn.{Turn}
@@ -24,7 +26,7 @@ use Rattle.iter.specs.Items.{Item, items, nameIn, nameOf}
 -- what an item comes to: an error is answered with its place, a record goes by its name
 abbrev pub orElse : Reading → ℕ → Verdict → Verdict
 orElse (Good r) place verdict = verdict
-orElse (Bad f) place verdict = BadRecord place f
+orElse (Bad f) place verdict = Refused (BadRecord place f)
 
 -- "iterate; the first item that is an error (4) or whose name isn't greater, byte by byte, than the one before (6) is answered
 -- with its place; else 0 and the record count". The items begin at a place; count records stood before them, the last of them
@@ -35,7 +37,7 @@ judge n place count last (i ∷ l) =
     orElse (i .what) place
     (if (smaller last (nameOf n i))
     (judge n (place + length (i .bytes)) (suc count) (nameOf n i) l)
-    (Unsorted place))
+    (Refused (Unsorted place)))
 
 -- the body of a file, which begins at a place
 unfoldable pub judgeBody : Classes → ℕ → List ℕ → ℕ → Verdict
@@ -43,7 +45,7 @@ judgeBody byte n file body = judge n body 0 [] (items byte n (drop body file))
 
 abbrev pub judgeOpened : Classes → ℕ → List ℕ → Opened → Verdict
 judgeOpened byte n file (Header h) = judgeBody byte n file (h .body)
-judgeOpened byte n file (Unreadable k) = BadHeader k
+judgeOpened byte n file (Unreadable k) = Refused (BadHeader k)
 
 unfoldable pub checkOf : Classes → ℕ → List ℕ → Verdict
 checkOf byte n file = judgeOpened byte n file (headerOf byte file)
@@ -52,21 +54,32 @@ checkOf byte n file = judgeOpened byte n file (headerOf byte file)
 unfoldable pub checkAnswer : ℕ → List ℕ → CheckAnswer
 checkAnswer kind file = admit (admission kind (length file) 0) (λ n. Done (checkOf paper n file)) UnknownKind TooLarge
 
+-- the paper's number for each refusal: "first byte is `#` and the header can't be read", "a record can't be read", "a name not greater
+-- than the record's before it"
+abbrev pub refusalNumber : Refusal → ℕ
+refusalNumber (BadHeader k) = 2
+refusalNumber (BadRecord place f) = faultNumber f
+refusalNumber (Unsorted place) = 6
+
 -- the paper's number for each case
 abbrev pub checkNumber : CheckAnswer → ℕ
 checkNumber (Done (Clean count)) = 0
-checkNumber (Done (BadHeader k)) = 2
-checkNumber (Done (BadRecord place f)) = faultNumber f
-checkNumber (Done (Unsorted place)) = 6
+checkNumber (Done (Refused why)) = refusalNumber why
 checkNumber UnknownKind = 1
 checkNumber TooLarge = 17
 
 -- ---- one turn of a pass that checks: what stands at a place, behind a record of the name last
 
-abbrev pub turnBy : ℕ → List ℕ → List ℕ → Reading → Turn
-turnBy n last rest (Good r) = if (smaller last (nameIn n (Good r) rest)) (turn.On r) turn.Unsorted
-turnBy n last rest (Bad f) = turn.Bad f
+abbrev pub turnBy : ℕ → List ℕ → List ℕ → ℕ → Reading → Turn
+turnBy n last rest place (Good r) = if (smaller last (nameIn n (Good r) rest)) (turn.On r) (turn.Refused (Unsorted place))
+turnBy n last rest place (Bad f) = turn.Refused (BadRecord place f)
 
 unfoldable pub turnOf : Classes → ℕ → List ℕ → ℕ → List ℕ → Turn
 turnOf byte n file place last =
-    if (ltb place (length file)) (turnBy n last (drop place file) (recordOf byte n (drop place file))) turn.End
+    if (ltb place (length file)) (turnBy n last (drop place file) place (recordOf byte n (drop place file))) turn.End
+
+-- the paper's number for each case: an end or a record that is in order is no refusal
+abbrev pub turnNumber : Turn → ℕ
+turnNumber turn.End = 0
+turnNumber (turn.On r) = 0
+turnNumber (turn.Refused why) = refusalNumber why

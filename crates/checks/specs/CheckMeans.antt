@@ -9,7 +9,8 @@ use Rattle.header.specs.declared.Header.{Header}
 use Rattle.header.specs.declared.Opened.the-variants as opened
 use Rattle.header.specs.Header.{headerOf}
 use Rattle.checks.specs.declared.Verdict.{Verdict}
-use Rattle.checks.specs.declared.Verdict.the-variants.{Clean, BadHeader, BadRecord, Unsorted}
+use Rattle.checks.specs.declared.Verdict.the-variants.{Clean, Refused}
+use Rattle.checks.specs.declared.Refusal.the-variants.{BadHeader, BadRecord, Unsorted}
 use Rattle.checks.specs.Check.{checkOf}
 use Rattle.iter.specs.Items.{Item, items}
 use Rattle.checks.specs.Passes.{Passes, FirstError, FirstUnsorted}
@@ -23,9 +24,9 @@ pub record Body (byte : Classes) (n : ℕ) (file : List ℕ) (P : ℕ → List I
 -- what each verdict says of a file. Places are counted in the file: an item's is the header's end and the bytes of the items before it
 abbrev pub Means : Classes → ℕ → List ℕ → Verdict → Type 0
 Means byte n file (Clean count) = Body byte n file (λ begin l. Passes n l count)
-Means byte n file (BadHeader text) = headerOf byte file ≡ opened.Unreadable text
-Means byte n file (BadRecord place f) = Body byte n file (λ begin l. FirstError n begin l place f)
-Means byte n file (Unsorted place) = Body byte n file (λ begin l. FirstUnsorted n begin l place)
+Means byte n file (Refused (BadHeader text)) = headerOf byte file ≡ opened.Unreadable text
+Means byte n file (Refused (BadRecord place f)) = Body byte n file (λ begin l. FirstError n begin l place f)
+Means byte n file (Refused (Unsorted place)) = Body byte n file (λ begin l. FirstUnsorted n begin l place)
 
 abbrev pub CheckMeans : Classes → ℕ → List ℕ → Type 0
 CheckMeans byte n file = (v : Verdict) → (checkOf byte n file ≡ v) ↔ Means byte n file v

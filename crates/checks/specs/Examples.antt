@@ -5,7 +5,8 @@ use lib.ListN.{replicate}
 use Rattle.class.specs.Class.{paper}
 use Rattle.decode.specs.declared.reference.Fault.the-variants.{Id, LineEnd, Peeled}
 use Rattle.checks.specs.declared.Verdict.{Verdict}
-use Rattle.checks.specs.declared.Verdict.the-variants.{Clean, BadRecord}
+use Rattle.checks.specs.declared.Verdict.the-variants.{Clean, Refused}
+use Rattle.checks.specs.declared.Refusal.the-variants.{BadRecord}
 use Rattle.checks.specs.Check.{checkOf}
 use Rattle.handed.specs.Handed.{Handed, good, error, whats}
 use Rattle.handed.specs.Run.{readOf, outOf}
@@ -42,16 +43,16 @@ cases =
     -- empty bytes: no items, and no records
     record { bytes = []; out = []; verdict = Clean 0 }
     -- an error's text is its bytes less the last one: `x` of `x` LF, nothing of `x` alone
-    ∷ record { bytes = 120 ∷ 10 ∷ []; out = error 1 (120 ∷ []) ∷ []; verdict = BadRecord 0 Id }
-    ∷ record { bytes = 120 ∷ []; out = error 1 [] ∷ []; verdict = BadRecord 0 Id }
+    ∷ record { bytes = 120 ∷ 10 ∷ []; out = error 1 (120 ∷ []) ∷ []; verdict = Refused (BadRecord 0 Id) }
+    ∷ record { bytes = 120 ∷ []; out = error 1 [] ∷ []; verdict = Refused (BadRecord 0 Id) }
     -- a second line that can't be read makes the record bad, and each line is an error of its own
     ∷ record {
       bytes = line (10 ∷ 94 ∷ 122 ∷ 122 ∷ 10 ∷ []);
       out = error 1 (line []) ∷ error 2 (94 ∷ 122 ∷ 122 ∷ []) ∷ [];
-      verdict = BadRecord 0 Peeled;
+      verdict = Refused (BadRecord 0 Peeled);
     }
     -- CR LF ends a line; a bare CR does not, and the end of the bytes does not
     ∷ record { bytes = line (13 ∷ 10 ∷ []); out = good ones (refsS ++ 97 ∷ []) ∷ []; verdict = Clean 1 }
-    ∷ record { bytes = line (13 ∷ 98 ∷ 10 ∷ []); out = error 1 (line (13 ∷ 98 ∷ [])) ∷ []; verdict = BadRecord 0 LineEnd }
-    ∷ record { bytes = line []; out = error 1 (ones ++ 32 ∷ refsS) ∷ []; verdict = BadRecord 0 LineEnd }
+    ∷ record { bytes = line (13 ∷ 98 ∷ 10 ∷ []); out = error 1 (line (13 ∷ 98 ∷ [])) ∷ []; verdict = Refused (BadRecord 0 LineEnd) }
+    ∷ record { bytes = line []; out = error 1 (ones ++ 32 ∷ refsS) ∷ []; verdict = Refused (BadRecord 0 LineEnd) }
     ∷ []

@@ -8,15 +8,20 @@ use decode::reference::Record;
 use header::Opened;
 use parse::limit::Admission;
 
-pub enum Verdict {
-    // The file passes; so many records.
-    Clean(usize),
+// Why a file does not pass: whoever checks one, alone or beside something else, gives this value on.
+pub enum Refusal {
     // A first line that begins with # and is no header: the length of its text.
     BadHeader(usize),
     // The first item that is an error, and which part of it can't be read.
     BadRecord { place: usize, fault: Fault },
     // The first record whose name isn't greater than the one before.
     Unsorted(usize),
+}
+
+pub enum Verdict {
+    // The file passes; so many records.
+    Clean(usize),
+    Refused(Refusal),
 }
 
 pub enum CheckAnswer {
@@ -39,11 +44,11 @@ pub fn check(kind: u32, file: &[u8]) -> CheckAnswer
 }
 
 // The same by a table of byte classes and for ids of n digits.
-pub(crate) fn check_by(t: &[u8; 256], n: usize, file: &[u8]) -> Verdict
+pub fn check_by(t: &[u8; 256], n: usize, file: &[u8]) -> Verdict
     ensures { λ r. ⌜ r ≡ checkOf (classesOf (now (t .entry))) n (now (file .entry)) ⌝ }
 {
     match header::open(t, file) {
-        Opened::Unreadable(text) => Verdict::BadHeader(text),
+        Opened::Unreadable(text) => Verdict::Refused(Refusal::BadHeader(text)),
         Opened::Header(h) => check_body(t, n, file, h.body),
     }
 }
@@ -60,11 +65,8 @@ pub(crate) fn check_body(t: &[u8; 256], n: usize, file: &[u8], body: usize) -> V
             Turn::End => {
                 return Verdict::Clean(count);
             }
-            Turn::Bad(fault) => {
-                return Verdict::BadRecord { place, fault };
-            }
-            Turn::Unsorted => {
-                return Verdict::Unsorted(place);
+            Turn::Refused(why) => {
+                return Verdict::Refused(why);
             }
             Turn::On(found) => {
                 last = decode::reference::name_of(&file[place..], n, found);
@@ -81,10 +83,8 @@ pub enum Turn {
     End,
     // A record whose name is greater than the one before.
     On(Record),
-    // A record whose name is not.
-    Unsorted,
-    // No record: which part of it can't be read.
-    Bad(Fault),
+    // No record, or one whose name is not.
+    Refused(Refusal),
 }
 
 // One turn of every pass that checks: what stands at a place, behind a record of the name last.
@@ -96,10 +96,10 @@ pub fn take_turn(t: &[u8; 256], n: usize, file: &[u8], place: usize, last: &[u8]
     }
     let rest = &file[place..];
     match decode::reference::reference(t, rest, n) {
-        Reading::Bad(fault) => Turn::Bad(fault),
+        Reading::Bad(fault) => Turn::Refused(Refusal::BadRecord { place, fault }),
         Reading::Good(found) => {
             if !compare::order::is_less(last, decode::reference::name_of(rest, n, found)) {
-                return Turn::Unsorted;
+                return Turn::Refused(Refusal::Unsorted(place));
             }
             Turn::On(found)
         }

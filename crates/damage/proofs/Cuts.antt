@@ -10,7 +10,21 @@ use borrow.Author.Tests.{ltb-true, le-ltb}
 use Rattle.parse.specs.Choice.{if}
 use Rattle.iter.specs.Items.{Item, bytesOf}
 use Rattle.checks.specs.Passes.{isGood, allGood}
-use Rattle.damage.specs.Damage.{endBefore, beginFrom}
+
+-- of some items, read from place 0: those that end before a place, with at least one byte between
+abbrev pub endBefore : ℕ → List Item → List Item
+endBefore place [] = []
+endBefore place (i ∷ l) = if (ltb (length (i .bytes)) place) (i ∷ endBefore (place - length (i .bytes)) l) []
+
+-- those that begin at a place or behind it
+abbrev pub beginFrom : ℕ → List Item → List Item
+beginFrom place [] = []
+beginFrom zero (i ∷ l) = i ∷ l
+beginFrom (suc place) (i ∷ l) = beginFrom (suc place - length (i .bytes)) l
+
+pub begin-all : (l : List Item) → beginFrom 0 l ≡ l
+begin-all [] = refl
+begin-all (i ∷ l) = refl
 
 pub end-zero : (l : List Item) → endBefore 0 l ≡ []
 end-zero [] = refl

@@ -16,8 +16,7 @@ use Rattle.decode.specs.Record.{recordOf}
 use Rattle.decode.proofs.Locality.{record-local}
 use Rattle.iter.specs.Items.{Item, sizeOf, itemOf, items}
 use Rattle.checks.specs.Passes.{isGood, allGood}
-use Rattle.damage.specs.Damage.{endBefore}
-use Rattle.damage.proofs.Cuts.{end-zero}
+use Rattle.damage.proofs.Cuts.{endBefore, end-zero}
 use Rattle.iter.proofs.Items.{items-step, size-good, size-le, size-some}
 
 module _ (byte : Classes) (n : ℕ) where

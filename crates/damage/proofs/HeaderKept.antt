@@ -66,6 +66,9 @@ module _
     pub header-kept : headerOf byte (h ++ b′) ≡ opened.Header head
     header-kept = kept .0
 
+    pub number-kept : firstItem (h ++ b′) ≡ firstItem (h ++ b)
+    number-kept = kept .1
+
     pub start-kept : startOf byte (h ++ b′) ≡ startOf byte (h ++ b)
     unfolding startOf
     start-kept = rw (header-kept, reads, kept .1)

@@ -4,3 +4,4 @@ pub mod Front
 pub mod HeaderKept
 pub mod Resync
 pub mod TextKept
+pub mod Traces

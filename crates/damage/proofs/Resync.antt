@@ -12,7 +12,7 @@ use Rattle.class.specs.Class.{paper}
 use Rattle.parse.specs.Line.{lineLen}
 use Rattle.parse.proofs.Fronts.{at-drop, lineLen-at}
 use Rattle.iter.specs.Items.{Item, sizeOf, items}
-use Rattle.damage.specs.Damage.{beginFrom}
+use Rattle.damage.proofs.Cuts.{beginFrom, begin-all}
 use Rattle.iter.proofs.Covers.{front-at, Covered, line, pair, covered}
 use Rattle.iter.proofs.Items.{items-step, size-le, size-some}
 
@@ -20,10 +20,6 @@ use Rattle.iter.proofs.Items.{items-step, size-le, size-some}
 drop-past : (u : List ℕ) (b : ℕ) (c : List ℕ) → drop (suc (length u)) (u ++ b ∷ c) ≡ c
 drop-past [] b c = refl
 drop-past (a ∷ u) b c = drop-past u b c
-
-begin-all : (l : List Item) → beginFrom 0 l ≡ l
-begin-all [] = refl
-begin-all (i ∷ l) = refl
 
 module _ (n : ℕ) where
   -- ---- an item and a line feed: it ends there at the latest, or goes on with one line that begins with `^`

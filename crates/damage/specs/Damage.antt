@@ -1,73 +1,127 @@
--- Demand 3: what is kept where a run of a checked file's bytes is replaced by others.
+-- Demand 3: what a reader is handed where a run of a checked file's bytes is replaced by others.
 use mathlib.Core.Path.{_≡_}
+use mathlib.Core.Bool.{false}
 use mathlib.Core.List.{List, [], _∷_, _++_}
-use Prim.Native.Nat.{ℕ, zero, suc, _+_, _-_, _≤_}
-use lib.Dec.{ltb}
-use lib.ListN.{getD, length, take, drop}
+use Prim.Native.Nat.{ℕ, suc, _+_, _≤_}
+use lib.Dec.{leb, ltb}
+use lib.ListN.{getD, length}
 use Rattle.parse.specs.Choice.{if}
 use Rattle.class.specs.Class.{paper}
+use Rattle.parse.specs.declared.limit.IdKind.the-variants.{Digits}
+use Rattle.parse.specs.Limit.{digitsOf, overLimit}
 use Rattle.parse.specs.Line.{lineLen}
-use Rattle.decode.specs.declared.reference.Fault.{Fault}
-use Rattle.decode.specs.declared.reference.Reading.the-variants.{Bad}
 use Rattle.header.specs.declared.Header.{Header}
 use Rattle.header.specs.declared.Opened.the-variants as opened
-use Rattle.header.specs.Header.{headerOf}
+use Rattle.header.specs.declared.HeaderAnswer.the-variants as headed
+use Rattle.header.specs.Header.{headerAnswer}
+use Rattle.start.specs.declared.StartAnswer.the-variants as started
+use Rattle.start.specs.Start.{startOf, startAnswer}
+use Rattle.iter.specs.declared.step.StepAnswer.the-variants as stepped
+use Rattle.iter.specs.Step.{stepOf, stepAnswer}
+use Rattle.handed.specs.Handed.{Handed, good, peeled, error, Given, whats}
+use Rattle.handed.specs.Run.{Stop, ended, readOf, outOf, stopOf}
+use Rattle.handed.specs.Lines.{InLines, Each}
 use Rattle.checks.specs.declared.Verdict.the-variants.{Clean}
-use Rattle.iter.specs.Items.{Item, items}
-use Rattle.checks.specs.Check.{checkOf}
-use Rattle.start.specs.Start.{startOf}
-use Rattle.iter.specs.Stands.{Stands, Each}
+use Rattle.checks.specs.declared.CheckAnswer.the-variants as checked
+use Rattle.checks.specs.Check.{checkAnswer}
 
--- of some items, read from place 0: those that end before a place, with at least one byte between
-abbrev pub endBefore : ℕ → List Item → List Item
-endBefore place [] = []
-endBefore place (i ∷ l) = if (ltb (length (i .bytes)) place) (i ∷ endBefore (place - length (i .bytes)) l) []
+-- ---- the file: header, kept bytes, the run, the rest
 
--- those that begin at a place or behind it
-abbrev pub beginFrom : ℕ → List Item → List Item
-beginFrom place [] = []
-beginFrom zero (i ∷ l) = i ∷ l
-beginFrom (suc place) (i ∷ l) = beginFrom (suc place - length (i .bytes)) l
-
--- the file before and after: header, kept bytes, the run, the rest
 abbrev pub whole : List ℕ → List ℕ → List ℕ → List ℕ → List ℕ
 whole header kept run rest = header ++ (kept ++ (run ++ rest))
 
--- "In a file that passes the check, replace one run of bytes after the header by any others (without a header, not making `#` the first byte)": `#` is 35
-pub record Replaced (n : ℕ) (header kept run other rest : List ℕ) : Type 0 where
+-- "In a file that passes the check, replace one run of bytes after the header by any others (within the size limit; without a header, not
+-- making `#` the first byte)": `#` is 35
+pub record Replaced (kind : ℕ) (header kept run other rest : List ℕ) : Type 0 where
   pub count : ℕ
-  pub passes : checkOf paper n (whole header kept run rest) ≡ Clean count
+  pub passes : checkAnswer kind (whole header kept run rest) ≡ checked.Done (Clean count)
   pub head : Header
-  pub reads : headerOf paper (whole header kept run rest) ≡ opened.Header head
+  pub reads : headerAnswer (whole header kept run rest) ≡ headed.Done (opened.Header head)
   pub behind : head .body ≡ length header
+  pub limit : overLimit (length (whole header kept other rest)) ≡ false
   pub no-hash : header ≡ [] → getD (whole header kept other rest) 0 0 ≡ 35 → ⊥
 
--- nothing, or one error: the first line of c, which begins with `^` (94) and so begins no record
-pub data Lone (c : List ℕ) : List Item → Type 0 where
-  none : Lone c []
-  caret : (f : Fault) → getD c 0 0 ≡ 94 → Lone c (record { what = Bad f; bytes = take (lineLen c) c } ∷ [])
+-- ---- of what was handed out
 
--- a line feed behind the run: the rest is a, LF (10), c. "every record beginning after the first line feed behind the run, comes out
--- unchanged and in order, and no error after that line feed concerns a line of those records": all that begins behind the line feed
--- is perhaps a lone `^` line, and then those records
-pub record Behind (n : ℕ) (kept run other a c : List ℕ) : Type 0 where
-  pub damaged : List Item
-  pub lone : List Item
-  pub lone-is : Lone c lone
-  pub all :
-      items paper n (kept ++ (other ++ (a ++ 10 ∷ c)))
-      ≡ endBefore (length kept) (items paper n (kept ++ (run ++ (a ++ 10 ∷ c))))
-      ++ (damaged ++ (lone ++ beginFrom (suc (length (kept ++ (run ++ a)))) (items paper n (kept ++ (run ++ (a ++ 10 ∷ c))))))
-  pub behind :
-      beginFrom (suc (length (kept ++ (other ++ a)))) (items paper n (kept ++ (other ++ (a ++ 10 ∷ c))))
-      ≡ lone ++ beginFrom (suc (length (kept ++ (run ++ a)))) (items paper n (kept ++ (run ++ (a ++ 10 ∷ c))))
+-- what ends before a place, with at least one byte between
+abbrev pub endingBefore : ℕ → List Given → List Given
+endingBefore place [] = []
+endingBefore place (g ∷ l) = if (ltb (g .next) place) (g ∷ endingBefore place l) (endingBefore place l)
 
--- what is kept: reading starts at the same place with the same number; "every record ending before the run with at least one kept byte
--- between [..] comes out unchanged and in order"; what stands behind a line feed; and every item is whole lines of the damaged body
-pub record Kept (n : ℕ) (header kept run other rest : List ℕ) : Type 0 where
+-- what begins at a place or behind it
+abbrev pub beginningFrom : ℕ → List Given → List Given
+beginningFrom place [] = []
+beginningFrom place (g ∷ l) = if (leb place (g .place)) (g ∷ beginningFrom place l) (beginningFrom place l)
+
+-- the records of it
+abbrev pub recordBy : Handed → List Handed → List Handed
+recordBy (good id name) l = good id name ∷ l
+recordBy (peeled id name peeledId) l = peeled id name peeledId ∷ l
+recordBy (error number text) l = l
+
+abbrev pub recordsIn : List Given → List Handed
+recordsIn [] = []
+recordsIn (g ∷ l) = recordBy (g .what) (recordsIn l)
+
+-- ---- what is kept
+
+-- all that is handed to a reader who lends a file to the start and steps to the end
+abbrev pub handedOut : ℕ → List ℕ → List Given
+handedOut n file = outOf (readOf paper n file)
+
+-- an error that covers one line, which begins at a place; and the records that are spoken of begin behind that line, which stood at a place
+-- in the file before
+pub record Aside (g : Given) (here there line : ℕ) (records : List Given) : Type 0 where
+  pub begins : g .place ≡ here
+  pub ends : g .next ≡ here + line
+  pub behind : Each (λ r. there + line ≤ r .place) records
+
+-- a line feed (10) behind the run: the rest is a, LF, c
+module _ (n : ℕ) (header kept : List ℕ) (run other a c : List ℕ) where
+  -- the two files, what is handed out of each, and the place behind the line feed in each
+  abbrev pub before : List Given
+  before = handedOut n (whole header kept run (a ++ 10 ∷ c))
+
+  abbrev pub after : List Given
+  after = handedOut n (whole header kept other (a ++ 10 ∷ c))
+
+  abbrev pub placeBefore : ℕ
+  placeBefore = suc (length (header ++ (kept ++ (run ++ a))))
+
+  abbrev pub placeAfter : ℕ
+  placeAfter = suc (length (header ++ (kept ++ (other ++ a))))
+
+  pub record Behind : Type 0 where
+    -- "every record beginning after the first line feed behind the run, comes out unchanged and in order"
+    pub records : recordsIn (beginningFrom placeAfter after) ≡ whats (beginningFrom placeBefore before)
+    pub between : List Given
+    pub in-order : after ≡ endingBefore (length (header ++ kept)) before ++ (between ++ beginningFrom placeAfter after)
+    -- "and no error after that line feed concerns a line of those records"
+    pub errors : Each (λ g. (number : ℕ) (text : List ℕ) → g .what ≡ error number text
+        → Aside g placeAfter placeBefore (lineLen c) (beginningFrom placeBefore before)) (beginningFrom placeAfter after)
+
+pub record Kept (kind n : ℕ) (header kept run other rest : List ℕ) : Type 0 where
+  -- "Read from the start": each call answers what the reading is made of
+  pub starts : startAnswer kind (whole header kept other rest) ≡ started.Done (startOf paper (whole header kept other rest))
+  pub steps : (place number : ℕ)
+      → stepAnswer kind [] (whole header kept other rest) place number ≡ stepped.Done (stepOf paper n [] (whole header kept other rest) place number)
+  -- at the same place and with the same number as before
   pub start : startOf paper (whole header kept other rest) ≡ startOf paper (whole header kept run rest)
-  pub header-kept : headerOf paper (whole header kept other rest) ≡ headerOf paper (whole header kept run rest)
-  pub others : List Item
-  pub before : items paper n (kept ++ (other ++ rest)) ≡ endBefore (length kept) (items paper n (kept ++ (run ++ rest))) ++ others
-  pub behind : (a c : List ℕ) → rest ≡ a ++ 10 ∷ c → Behind n kept run other a c
-  pub lines : (place : ℕ) (it : Item) → Stands paper n (kept ++ (other ++ rest)) place it → Each n (kept ++ (other ++ rest)) place it
+  -- to the end
+  pub last : ℕ
+  pub end : stopOf (readOf paper n (whole header kept other rest)) ≡ ended (length (whole header kept other rest)) last
+  -- what is handed out of the file before is records alone
+  pub all-records : recordsIn (handedOut n (whole header kept run rest)) ≡ whats (handedOut n (whole header kept run rest))
+  -- "every record ending before the run with at least one kept byte between [..] comes out unchanged and in order"
+  pub others : List Given
+  pub before : handedOut n (whole header kept other rest) ≡ endingBefore (length (header ++ kept)) (handedOut n (whole header kept run rest)) ++ others
+  -- "every record beginning after the first line feed behind the run": behind any one
+  pub behind : (a c : List ℕ) → rest ≡ a ++ 10 ∷ c → Behind n header kept run other a c
+  -- "All other bytes handed out are parts of lines standing in the damaged file."
+  pub parts : Each (λ g. InLines (whole header kept other rest) (g .what)) (handedOut n (whole header kept other rest))
+
+-- for both kinds
+abbrev pub Demand3 : Type 0
+Demand3 =
+    (kind n : ℕ) → digitsOf kind ≡ Digits n → (header kept run other rest : List ℕ) → Replaced kind header kept run other rest
+    → Kept kind n header kept run other rest

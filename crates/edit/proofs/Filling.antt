@@ -9,10 +9,11 @@ use lib.ListN.{getD, length, drop, set, length-append, length-drop}
 use lib.Seq.{drop-cons, set-at}
 use Rattle.class.specs.Class.{Classes}
 use Rattle.change.specs.declared.Change.{Change}
-use Rattle.change.specs.declared.Reading.the-variants.{Good, Malformed, BadName}
+use Rattle.change.specs.declared.Fault.{Fault}
+use Rattle.change.specs.declared.Reading.the-variants.{Good, Bad}
 use Rattle.change.specs.Change.{changeOf}
-use Rattle.edit.specs.List.{Listed, all, malformed, badName, tooMany, onto, editsFrom, editsOf, isWhole, placesOf}
-use Rattle.edit.proofs.Lists.{from-end, from-many, from-malformed, from-bad-name, from-good}
+use Rattle.edit.specs.List.{Listed, all, bad, onto, editsFrom, editsOf, isWhole, placesOf}
+use Rattle.edit.proofs.Lists.{from-end, from-many, from-bad, from-good}
 
 module _ (byte : Classes) (n : ℕ) (list : List ℕ) where
   abbrev pub places : List ℕ
@@ -34,9 +35,7 @@ module _ (byte : Classes) (n : ℕ) (list : List ℕ) where
     where
       go : (l : Listed) → isWhole l ≡ true → l ≡ all (placesOf l)
       go (all l) e = refl
-      go (malformed p) e = absurd (let z : _≡_ {A = ℕ} 0 1 = cc in omega arith)
-      go (badName p) e = absurd (let z : _≡_ {A = ℕ} 0 1 = cc in omega arith)
-      go (tooMany p) e = absurd (let z : _≡_ {A = ℕ} 0 1 = cc in omega arith)
+      go (bad why) e = absurd (let z : _≡_ {A = ℕ} 0 1 = cc in omega arith)
 
   pub filling-end : (index₀ index : List ℕ) (place i : ℕ) → Filling index₀ index place i → length list ≤ place → index ≡ places ++ drop (length places) index₀
   filling-end index₀ index place i f h =
@@ -54,11 +53,8 @@ module _ (byte : Classes) (n : ℕ) (list : List ℕ) where
     turn : (t : ℕ) × (editsFrom byte n list (suc t) place ≡ all (f .left))
     turn = let m = more (f .turns) (f .rest) in (m .0, ap (λ (k : ℕ). editsFrom byte n list k place) (sym (m .1)) ∙ f .rest)
 
-    pub no-malformed : changeOf byte n (drop place list) ≡ Malformed → ⊥
-    no-malformed e = let z : _≡_ {A = ℕ} 0 1 = cc (from-malformed byte n list place inside (turn .0) e, turn .1) in omega arith
-
-    pub no-bad-name : changeOf byte n (drop place list) ≡ BadName → ⊥
-    no-bad-name e = let z : _≡_ {A = ℕ} 0 1 = cc (from-bad-name byte n list place inside (turn .0) e, turn .1) in omega arith
+    pub no-bad : {f : Fault} → changeOf byte n (drop place list) ≡ Bad f → ⊥
+    no-bad {f} e = let z : _≡_ {A = ℕ} 0 1 = cc (from-bad byte n list place inside (turn .0) {f = f} e, turn .1) in omega arith
 
     module _ (c : Change) (e : changeOf byte n (drop place list) ≡ Good c) (room : length places ≤ length index₀) where
       Rest : Type 0
@@ -74,9 +70,7 @@ module _ (byte : Classes) (n : ℕ) (list : List ℕ) where
           go : (x : Listed) → editsFrom byte n list (turn .0) (place + c .size) ≡ x
               → (l : List ℕ) × (editsFrom byte n list (turn .0) (place + c .size) ≡ all l) × (f .left ≡ place ∷ l)
           go (all l) q = (l, q, cc (same, ap (onto place) q))
-          go (malformed p) q = absurd (let z : _≡_ {A = ℕ} 0 1 = cc (same, ap (onto place) q) in omega arith)
-          go (badName p) q = absurd (let z : _≡_ {A = ℕ} 0 1 = cc (same, ap (onto place) q) in omega arith)
-          go (tooMany p) q = absurd (let z : _≡_ {A = ℕ} 0 1 = cc (same, ap (onto place) q) in omega arith)
+          go (bad why) q = absurd (let z : _≡_ {A = ℕ} 0 1 = cc (same, ap (onto place) q) in omega arith)
 
       pub room-left : i < length index₀
       unfolding Rest

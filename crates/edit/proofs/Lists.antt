@@ -7,9 +7,11 @@ use lib.ListN.{length, drop}
 use borrow.Author.Tests.{lt-ltb, le-ltb}
 use Rattle.class.specs.Class.{Classes}
 use Rattle.change.specs.declared.Change.{Change}
-use Rattle.change.specs.declared.Reading.the-variants.{Good, Malformed, BadName}
+use Rattle.change.specs.declared.Fault.{Fault}
+use Rattle.change.specs.declared.Reading.the-variants.{Good, Bad}
 use Rattle.change.specs.Change.{changeOf}
-use Rattle.edit.specs.List.{Listed, all, malformed, badName, tooMany, onto, editsFrom, told}
+use Rattle.edit.specs.declared.list.ListFault.the-variants.{BadEdit, TooMany}
+use Rattle.edit.specs.List.{Listed, all, bad, onto, editsFrom, told}
 
 -- ---- turns
 
@@ -20,18 +22,14 @@ module _ (byte : Classes) (n : ℕ) (list : List ℕ) (place : ℕ) where
   from-end (suc turns) h = rw (le-ltb place (length list) h)
 
   module _ (inside : place < length list) where
-    pub from-many : editsFrom byte n list 0 place ≡ tooMany place
+    pub from-many : editsFrom byte n list 0 place ≡ bad (TooMany place)
     unfolding editsFrom
     from-many = rw (lt-ltb place (length list) inside)
 
     module _ (turns : ℕ) where
-      pub from-malformed : changeOf byte n (drop place list) ≡ Malformed → editsFrom byte n list (suc turns) place ≡ malformed place
+      pub from-bad : {f : Fault} → changeOf byte n (drop place list) ≡ Bad f → editsFrom byte n list (suc turns) place ≡ bad (BadEdit place f)
       unfolding editsFrom
-      from-malformed e = rw (lt-ltb place (length list) inside, e)
-
-      pub from-bad-name : changeOf byte n (drop place list) ≡ BadName → editsFrom byte n list (suc turns) place ≡ badName place
-      unfolding editsFrom
-      from-bad-name e = rw (lt-ltb place (length list) inside, e)
+      from-bad e = rw (lt-ltb place (length list) inside, e)
 
       pub from-good : (c : Change) → changeOf byte n (drop place list) ≡ Good c
           → editsFrom byte n list (suc turns) place ≡ onto place (editsFrom byte n list turns (place + c .size))
@@ -42,6 +40,4 @@ module _ (byte : Classes) (n : ℕ) (list : List ℕ) (place : ℕ) where
 
 pub told-onto : (k place : ℕ) (l : Listed) → told k (onto place l) ≡ told (k + 1) l
 told-onto k place (all l) = let z : k + suc (length l) ≡ k + 1 + length l = omega arith in rw z
-told-onto k place (malformed p) = refl
-told-onto k place (badName p) = refl
-told-onto k place (tooMany p) = refl
+told-onto k place (bad why) = refl

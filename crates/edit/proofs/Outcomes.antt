@@ -9,49 +9,28 @@ use lib.ListN.{length, drop}
 use borrow.Author.Tests.{lt-ltb, le-ltb}
 use Rattle.class.specs.Class.{Classes}
 use Rattle.parse.specs.Limit.{overLimit}
+use Rattle.edit.specs.declared.list.ListFault.{ListFault}
 use Rattle.edit.specs.declared.list.Edits.the-variants as edits
 use Rattle.edit.specs.declared.list.Prepared.{Prepared}
-use Rattle.edit.specs.declared.list.Prepared.the-variants.{Malformed, BadName, TooMany, ShortIndex, TooLarge}
-use Rattle.edit.specs.List.{Listed, all, malformed, badName, tooMany, editsOf, told, isWhole, placesOf, inOrder, twinsOf, preparedOf, indexAfter}
+use Rattle.edit.specs.declared.list.Prepared.the-variants.{BadList, ShortIndex, TooLarge}
+use Rattle.edit.specs.List.{Listed, all, bad, editsOf, told, isWhole, placesOf, inOrder, twinsOf, preparedOf, indexAfter}
 
 -- ---- what a count, or a fault, says of the list
 
 module _ (l : Listed) where
-  pub told-malformed : (p : ℕ) → told 0 l ≡ edits.Malformed p → l ≡ malformed p
-  told-malformed p e = go l e
+  pub told-bad : (why : ListFault) → told 0 l ≡ edits.Bad why → l ≡ bad why
+  told-bad why e = go l e
     where
-      go : (x : Listed) → told 0 x ≡ edits.Malformed p → x ≡ malformed p
+      go : (x : Listed) → told 0 x ≡ edits.Bad why → x ≡ bad why
       go (all k) q = cc
-      go (malformed k) q = let z : k ≡ p = cc in ap malformed z
-      go (badName k) q = cc
-      go (tooMany k) q = cc
-
-  pub told-bad-name : (p : ℕ) → told 0 l ≡ edits.BadName p → l ≡ badName p
-  told-bad-name p e = go l e
-    where
-      go : (x : Listed) → told 0 x ≡ edits.BadName p → x ≡ badName p
-      go (all k) q = cc
-      go (malformed k) q = cc
-      go (badName k) q = let z : k ≡ p = cc in ap badName z
-      go (tooMany k) q = cc
-
-  pub told-many : (p : ℕ) → told 0 l ≡ edits.TooMany p → l ≡ tooMany p
-  told-many p e = go l e
-    where
-      go : (x : Listed) → told 0 x ≡ edits.TooMany p → x ≡ tooMany p
-      go (all k) q = cc
-      go (malformed k) q = cc
-      go (badName k) q = cc
-      go (tooMany k) q = let z : k ≡ p = cc in ap tooMany z
+      go (bad f) q = let z : f ≡ why = cc in ap bad z
 
   pub told-count : (k : ℕ) → told 0 l ≡ edits.Count k → (l ≡ all (placesOf l)) × (length (placesOf l) ≡ k) × (isWhole l ≡ true)
   told-count k e = go l e
     where
       go : (x : Listed) → told 0 x ≡ edits.Count k → (x ≡ all (placesOf x)) × (length (placesOf x) ≡ k) × (isWhole x ≡ true)
       go (all p) q = let z : 0 + length p ≡ k = cc in (refl, sym (zero-add (length p)) ∙ z, refl)
-      go (malformed p) q = absurd (let z : _≡_ {A = ℕ} 0 1 = cc in omega arith)
-      go (badName p) q = absurd (let z : _≡_ {A = ℕ} 0 1 = cc in omega arith)
-      go (tooMany p) q = absurd (let z : _≡_ {A = ℕ} 0 1 = cc in omega arith)
+      go (bad why) q = absurd (let z : _≡_ {A = ℕ} 0 1 = cc in omega arith)
 
 -- ---- outcomes
 
@@ -65,17 +44,9 @@ module _ (byte : Classes) (n : ℕ) (list index : List ℕ) where
   comes-large h = (rw h, rw h)
 
   module _ (fine : overLimit (length list) ≡ false) where
-    pub comes-malformed : (p : ℕ) → told 0 (editsOf byte n list) ≡ edits.Malformed p → Comes (Malformed p) index
+    pub comes-bad : (why : ListFault) → told 0 (editsOf byte n list) ≡ edits.Bad why → Comes (BadList why) index
     unfolding preparedOf indexAfter
-    comes-malformed p e = let l = told-malformed (editsOf byte n list) p e in (rw (fine, l), rw (fine, l))
-
-    pub comes-bad-name : (p : ℕ) → told 0 (editsOf byte n list) ≡ edits.BadName p → Comes (BadName p) index
-    unfolding preparedOf indexAfter
-    comes-bad-name p e = let l = told-bad-name (editsOf byte n list) p e in (rw (fine, l), rw (fine, l))
-
-    pub comes-many : (p : ℕ) → told 0 (editsOf byte n list) ≡ edits.TooMany p → Comes (TooMany p) index
-    unfolding preparedOf indexAfter
-    comes-many p e = let l = told-many (editsOf byte n list) p e in (rw (fine, l), rw (fine, l))
+    comes-bad why e = let l = told-bad (editsOf byte n list) why e in (rw (fine, l), rw (fine, l))
 
     module _ (k : ℕ) (counted : told 0 (editsOf byte n list) ≡ edits.Count k) where
       abbrev places : List ℕ

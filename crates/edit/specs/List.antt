@@ -17,35 +17,32 @@ use Rattle.sort.specs.Twin.{firstTwin}
 use Rattle.change.specs.declared.Change.{Change}
 use Rattle.change.specs.declared.Reading.{Reading}
 use Rattle.change.specs.declared.Reading.the-variants as reading
+use Rattle.edit.specs.declared.list.ListFault.{ListFault}
+use Rattle.edit.specs.declared.list.ListFault.the-variants.{BadEdit, TooMany}
 use Rattle.edit.specs.declared.list.Edits.{Edits}
 use Rattle.edit.specs.declared.list.Edits.the-variants as edits
 use Rattle.edit.specs.declared.list.Prepared.{Prepared}
-use Rattle.edit.specs.declared.list.Prepared.the-variants.{Ready, Malformed, BadName, TooMany, ShortIndex, Twins, TooLarge}
-use Rattle.change.specs.Change.{changeOf}
+use Rattle.edit.specs.declared.list.Prepared.the-variants.{Ready, BadList, ShortIndex, Twins, TooLarge}
+use Rattle.change.specs.Change.{changeOf, editFaultNumber}
 
--- ---- the edits' places, or the first fault and its place
+-- ---- the edits' places, or the first fault
 
 pub data Listed : Type 0 where
   all : (places : List ℕ) → Listed
-  malformed : (place : ℕ) → Listed
-  badName : (place : ℕ) → Listed
-  tooMany : (place : ℕ) → Listed
+  bad : (why : ListFault) → Listed
 
 abbrev pub onto : ℕ → Listed → Listed
 onto place (all l) = all (place ∷ l)
-onto place (malformed p) = malformed p
-onto place (badName p) = badName p
-onto place (tooMany p) = tooMany p
+onto place (bad why) = bad why
 
 abbrev pub listedBy : Reading → ℕ → (Change → Listed) → Listed
 listedBy (reading.Good c) place next = next c
-listedBy reading.Malformed place next = malformed place
-listedBy reading.BadName place next = badName place
+listedBy (reading.Bad f) place next = bad (BadEdit place f)
 
 -- "edits one after another"; "First fault in the list wins; 9 comes where that edit would begin": after so many turns no edit may begin
 module _ (byte : Classes) (n : ℕ) (list : List ℕ) where
   unfoldable pub editsFrom : ℕ → ℕ → Listed
-  editsFrom zero place = if (ltb place (length list)) (tooMany place) (all [])
+  editsFrom zero place = if (ltb place (length list)) (bad (TooMany place)) (all [])
   editsFrom (suc turns) place =
       if (ltb place (length list))
       (listedBy (changeOf byte n (drop place list)) place (λ c. onto place (editsFrom turns (place + c .size))))
@@ -58,21 +55,15 @@ module _ (byte : Classes) (n : ℕ) (list : List ℕ) where
 -- the number of edits, k counted before
 abbrev pub told : ℕ → Listed → Edits
 told k (all l) = edits.Count (k + length l)
-told k (malformed p) = edits.Malformed p
-told k (badName p) = edits.BadName p
-told k (tooMany p) = edits.TooMany p
+told k (bad why) = edits.Bad why
 
 abbrev pub isWhole : Listed → Bool
 isWhole (all l) = true
-isWhole (malformed p) = false
-isWhole (badName p) = false
-isWhole (tooMany p) = false
+isWhole (bad why) = false
 
 abbrev pub placesOf : Listed → List ℕ
 placesOf (all l) = l
-placesOf (malformed p) = []
-placesOf (badName p) = []
-placesOf (tooMany p) = []
+placesOf (bad why) = []
 
 -- ---- the index: "its first entries hold the edits' places in the list by name order, equal names in list order"
 
@@ -89,9 +80,7 @@ twinsOf list k index = twinsBy k (firstTwin (nameOf Edit list) index)
 
 abbrev pub preparedBy : List ℕ → ℕ → Listed → Prepared
 preparedBy list room (all l) = if (ltb room (length l)) ShortIndex (twinsOf list (length l) (inOrder list l))
-preparedBy list room (malformed p) = Malformed p
-preparedBy list room (badName p) = BadName p
-preparedBy list room (tooMany p) = TooMany p
+preparedBy list room (bad why) = BadList why
 
 unfoldable pub preparedOf : Classes → ℕ → List ℕ → ℕ → Prepared
 preparedOf byte n list room = if (overLimit (length list)) TooLarge (preparedBy list room (editsOf byte n list))
@@ -99,19 +88,20 @@ preparedOf byte n list room = if (overLimit (length list)) TooLarge (preparedBy 
 -- "before that it is unchanged; entries behind are never touched"
 abbrev pub indexBy : List ℕ → List ℕ → Listed → List ℕ
 indexBy list index (all l) = if (ltb (length index) (length l)) index (inOrder list l ++ drop (length l) index)
-indexBy list index (malformed p) = index
-indexBy list index (badName p) = index
-indexBy list index (tooMany p) = index
+indexBy list index (bad why) = index
 
 unfoldable pub indexAfter : Classes → ℕ → List ℕ → List ℕ → List ℕ
 indexAfter byte n list index = if (overLimit (length list)) index (indexBy list index (editsOf byte n list))
 
+-- the paper's number for each fault: an edit's, or "a 4,097th edit begins"
+abbrev pub listFaultNumber : ListFault → ℕ
+listFaultNumber (BadEdit place f) = editFaultNumber f
+listFaultNumber (TooMany place) = 9
+
 -- the paper's number for each case
 abbrev pub preparedNumber : Prepared → ℕ
 preparedNumber (Ready k) = 0
-preparedNumber (Malformed p) = 7
-preparedNumber (BadName p) = 8
-preparedNumber (TooMany p) = 9
+preparedNumber (BadList why) = listFaultNumber why
 preparedNumber ShortIndex = 10
 preparedNumber (Twins p) = 11
 preparedNumber TooLarge = 17

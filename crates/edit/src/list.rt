@@ -6,25 +6,30 @@ ghost use Prim.Native.Nat.{_≤_, _<_};
 ghost use lib.ListN.{length, take, drop};
 ghost use Rattle.class.specs.Class.{classesOf};
 ghost use Rattle.edit.specs.List.{editsOf, told, isWhole, placesOf, inOrder, preparedOf, twinsOf, indexAfter};
+use change::Fault;
 use change::Reading;
 use places::name::Layout;
 use sort::twin::Twin;
 
-// How many edits a list has, or the place of its first fault.
+// The first fault of a list: whoever reads one gives this value on.
+pub enum ListFault {
+    // The first edit that can't be taken: where it starts, and why.
+    BadEdit { place: usize, fault: Fault },
+    // Where a 4,097th edit begins.
+    TooMany(usize),
+}
+
+// How many edits a list has, or its first fault.
 pub enum Edits {
     Count(usize),
-    Malformed(usize),
-    BadName(usize),
-    TooMany(usize),
+    Bad(ListFault),
 }
 
 // What comes of a list and an index: the index is in name order, or it can't be.
 pub enum Prepared {
     // So many edits, all of different names.
     Ready(usize),
-    Malformed(usize),
-    BadName(usize),
-    TooMany(usize),
+    BadList(ListFault),
     ShortIndex,
     // Two edits of one name: the second place of the first equal pair.
     Twins(u32),
@@ -39,7 +44,7 @@ pub(crate) fn count(t: &[u8; 256], n: usize, list: &[u8]) -> Edits
     let mut count = 0;
     while place < list.len() {
         if 4096 <= count {
-            return Edits::TooMany(place);
+            return Edits::Bad(ListFault::TooMany(place));
         }
         let rest = &list[place..];
         match change::read(t, n, rest) {
@@ -47,11 +52,8 @@ pub(crate) fn count(t: &[u8; 256], n: usize, list: &[u8]) -> Edits
                 place += c.size;
                 count += 1;
             }
-            Reading::Malformed => {
-                return Edits::Malformed(place);
-            }
-            Reading::BadName => {
-                return Edits::BadName(place);
+            Reading::Bad(fault) => {
+                return Edits::Bad(ListFault::BadEdit { place, fault });
             }
         }
     }
@@ -68,9 +70,7 @@ pub fn prepare(t: &[u8; 256], n: usize, list: &[u8], index: &mut [u32]) -> Prepa
         return Prepared::TooLarge;
     }
     match count(t, n, list) {
-        Edits::Malformed(place) => Prepared::Malformed(place),
-        Edits::BadName(place) => Prepared::BadName(place),
-        Edits::TooMany(place) => Prepared::TooMany(place),
+        Edits::Bad(why) => Prepared::BadList(why),
         Edits::Count(k) => {
             if index.len() < k {
                 return Prepared::ShortIndex;
@@ -118,10 +118,7 @@ fn fill(t: &[u8; 256], n: usize, list: &[u8], index: &mut [u32])
                 place += c.size;
                 i += 1;
             }
-            Reading::Malformed => {
-                return;
-            }
-            Reading::BadName => {
+            Reading::Bad(_) => {
                 return;
             }
         }

@@ -2,6 +2,7 @@
 use mathlib.Core.Path.{_≡_, refl, sym, ap, _∙_}
 use mathlib.Core.Bool.{true, false}
 use mathlib.Core.List.{List}
+use mathlib.Core.Logic.{_⊎_, inl, inr}
 use Prim.Native.Nat.{ℕ, _<_}
 use native.Mathlib.Omega.{arith}
 use lib.ListN.{drop}
@@ -82,6 +83,12 @@ module _ {n : ℕ} {s : List ℕ} (c : Checked n s) (name : List ℕ) (valid : v
       absurd (none a q (record { it = it; stands = x; good = g; name-is = e }))
   absent (miss nobody h) none = lookup-miss h
 
+  either : Searched c name → ((place : ℕ) × (r : Record) × (lookupOf paper n s name ≡ Charted place r)) ⊎ (lookupOf paper n s name ≡ Absent)
+  either (hit {place = a} {it} x e h) =
+      let (q, g) = good-record (it .what) (good-at c x) in
+      inl (a, q, lookup-hit h x g)
+  either (miss nobody h) = inr (lookup-miss h)
+
 pub found-exactly : (n : ℕ) → 0 < n → (s : List ℕ) (count : ℕ) → Passes n (items paper n s) count → (name : List ℕ) → validName paper name ≡ true
     → FoundExactly n s name
 found-exactly n pos s count passes name valid =
@@ -91,5 +98,6 @@ found-exactly n pos s count passes name valid =
       found = found c name valid by;
       only = only c name valid by;
       absent = absent c name valid by;
+      either = either c name valid by;
       reads = λ place h. side c name place h .reads;
     }

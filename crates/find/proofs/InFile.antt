@@ -19,7 +19,7 @@ use Rattle.find.specs.Present.{FoundExactly, ListsExactly, InChecked}
 use Rattle.find.proofs.Found.{found-exactly}
 use Rattle.find.proofs.Lists.{lists-exactly}
 
-body-passes : (n : ℕ) (file : List ℕ) (count : ℕ) (h : Header) → checkOf paper n file ≡ verdict.Clean count → headerOf paper file ≡ opened.Header h
+pub body-passes : (n : ℕ) (file : List ℕ) (count : ℕ) (h : Header) → checkOf paper n file ≡ verdict.Clean count → headerOf paper file ≡ opened.Header h
     → Passes n (items paper n (drop (h .body) file)) count
 body-passes n file count h e o =
     let b = check-means paper n file (verdict.Clean count) .0 e in

@@ -2,6 +2,7 @@
 use mathlib.Core.Path.{_≡_}
 use mathlib.Core.Bool.{false}
 use mathlib.Core.List.{List, [], _∷_}
+use mathlib.Core.Logic.{_⊎_}
 use Prim.Native.Nat.{ℕ, _-_, _^_, _≤_, _<_}
 use lib.ListN.{length, drop}
 use Rattle.parse.specs.Choice.{if}
@@ -30,6 +31,8 @@ pub record FoundExactly (n : ℕ) (s name : List ℕ) : Type 0 where
   pub found : (place : ℕ) (r : Record) → Named n s name place r → lookupOf paper n s name ≡ lookup.Charted place r
   pub only : (place : ℕ) (r : Record) → lookupOf paper n s name ≡ lookup.Charted place r → Named n s name place r
   pub absent : ((place : ℕ) (r : Record) → Named n s name place r → ⊥) → lookupOf paper n s name ≡ lookup.Absent
+  -- there is no third answer
+  pub either : ((place : ℕ) × (r : Record) × (lookupOf paper n s name ≡ lookup.Charted place r)) ⊎ (lookupOf paper n s name ≡ lookup.Absent)
   -- every probe reads a name
   pub reads : (place : ℕ) → place < length s → failureAt paper n s name place ≡ false
 

@@ -35,7 +35,7 @@ pub fn list(kind: u32, body: &[u8], prefix: &[u8]) -> ListingAnswer
 }
 
 // The same by a table of byte classes and for ids of n digits. A remembered failure is ignored.
-pub(crate) fn list_by(t: &[u8; 256], n: usize, body: &[u8], prefix: &[u8]) -> Listing
+pub fn list_by(t: &[u8; 256], n: usize, body: &[u8], prefix: &[u8]) -> Listing
     ensures { λ r. ⌜ r ≡ listingOf (classesOf (now (t .entry))) n (now (body .entry)) (now (prefix .entry)) ⌝ }
 {
     match search::search(t, n, body, prefix) {

@@ -41,7 +41,7 @@ pub fn find(kind: u32, body: &[u8], name: &[u8]) -> LookupAnswer
 }
 
 // The same by a table of byte classes and for ids of n digits.
-pub(crate) fn find_by(t: &[u8; 256], n: usize, body: &[u8], name: &[u8]) -> Lookup
+pub fn find_by(t: &[u8; 256], n: usize, body: &[u8], name: &[u8]) -> Lookup
     ensures { λ r. ⌜ r ≡ lookupOf (classesOf (now (t .entry))) n (now (body .entry)) (now (name .entry)) ⌝ }
 {
     if !name::is_valid_by(t, name) {

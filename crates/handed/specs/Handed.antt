@@ -39,11 +39,12 @@ abbrev pub handedBy : ℕ → ℕ → List ℕ → Reading → Handed
 handedBy n number bytes (Good r) = partsOf n bytes r
 handedBy n number bytes (Bad f) = error number (take (length bytes - 1) bytes)
 
+abbrev pub handedAt : ℕ → ℕ → ℕ → Item → Given
+handedAt n place number i = given place (place + length (i .bytes)) (handedBy n number (i .bytes) (i .what))
+
 abbrev pub handed : ℕ → ℕ → ℕ → List Item → List Given
 handed n place number [] = []
-handed n place number (i ∷ l) =
-    given place (place + length (i .bytes)) (handedBy n number (i .bytes) (i .what))
-    ∷ handed n (place + length (i .bytes)) (more number) l
+handed n place number (i ∷ l) = handedAt n place number i ∷ handed n (place + length (i .bytes)) (more number) l
 
 -- without the places
 abbrev pub whats : List Given → List Handed

@@ -54,3 +54,8 @@ readOf byte n file = readFrom byte n file (startOf byte file)
 abbrev pub outOf : Read → List Given
 outOf (refused text) = []
 outOf (read r) = r .out
+
+-- and where it stops
+abbrev pub stopOf : Read → Stop
+stopOf (refused text) = unfinished
+stopOf (read r) = r .stop

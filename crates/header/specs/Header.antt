@@ -81,15 +81,14 @@ headerOf byte s =
     (opened.the-variants.Header (plainHeader 0))
 
 -- the answer to any bytes, with the size limit first
-abbrev pub answered : Opened → HeaderAnswer
-answered (opened.the-variants.Header h) = answer.the-variants.Done h
-answered (opened.the-variants.Unreadable k) = answer.the-variants.Unreadable k
-
 unfoldable pub headerAnswer : List ℕ → HeaderAnswer
-headerAnswer s = if (overLimit (length s)) answer.the-variants.TooLarge (answered (headerOf paper s))
+headerAnswer s = if (overLimit (length s)) answer.the-variants.TooLarge (answer.the-variants.Done (headerOf paper s))
 
 -- the paper's number for each case
+abbrev pub openedNumber : Opened → ℕ
+openedNumber (opened.the-variants.Header h) = 0
+openedNumber (opened.the-variants.Unreadable k) = 2
+
 abbrev pub headerNumber : HeaderAnswer → ℕ
-headerNumber (answer.the-variants.Done h) = 0
-headerNumber (answer.the-variants.Unreadable k) = 2
+headerNumber (answer.the-variants.Done o) = openedNumber o
 headerNumber answer.the-variants.TooLarge = 17

@@ -31,8 +31,7 @@ pub enum Opened {
 
 // The same for any bytes, with the size limit first.
 pub enum HeaderAnswer {
-    Done(Header),
-    Unreadable(usize),
+    Done(Opened),
     TooLarge,
 }
 
@@ -43,10 +42,7 @@ pub fn read_header(file: &[u8]) -> HeaderAnswer
         return HeaderAnswer::TooLarge;
     }
     let t = class::table();
-    match open(&t, file) {
-        Opened::Header(h) => HeaderAnswer::Done(h),
-        Opened::Unreadable(text) => HeaderAnswer::Unreadable(text),
-    }
+    HeaderAnswer::Done(open(&t, file))
 }
 
 pub fn open(t: &[u8; 256], file: &[u8]) -> Opened

@@ -1,9 +1,13 @@
 // The merge.
 ghost use mathlib.Core.Path.{_≡_};
 ghost use lib.ListN.{length};
+ghost use Rattle.change.specs.Change.{editFaultNumber};
 ghost use Rattle.merge.specs.Merge.{mergeAnswer, indexAnswer, outputAfter};
-ghost use Rattle.host.specs.Write.{mergeReply, mergeGives};
+ghost use Rattle.host.specs.Write.{mergeReply, mergeGives, listFaultTold};
+use change::Fault;
+use edit::list::ListFault;
 use merge::Merged;
+use reply::told::Numbered;
 
 #[repr(C)]
 pub struct MergeReply {
@@ -38,17 +42,41 @@ fn told(merged: Merged) -> MergeReply
         Merged::Done(len) => gives(0, 0, len, 0),
         Merged::UnknownKind => gives(1, 0, 0, 0),
         Merged::TooLarge => gives(17, 0, 0, 0),
-        Merged::Malformed(place) => gives(7, place, 0, 0),
-        Merged::BadName(place) => gives(8, place, 0, 0),
-        Merged::TooMany(place) => gives(9, place, 0, 0),
+        Merged::BadList(why) => {
+            let told = list_fault(why);
+            gives(told.number, told.place, 0, told.text_len)
+        }
         Merged::ShortIndex => gives(10, 0, 0, 0),
         Merged::Twins(place) => gives(11, place as usize, 0, 0),
-        Merged::BadHeader(text) => gives(2, 0, 0, text),
-        Merged::BadRecord { place, fault } => gives(reply::told::fault_number(fault), place, 0, 0),
-        Merged::Unsorted(place) => gives(6, place, 0, 0),
+        Merged::Refused(why) => {
+            let told = reply::told::refusal(why);
+            gives(told.number, told.place, 0, told.text_len)
+        }
         Merged::NothingToDo => gives(13, 0, 0, 0),
         Merged::NoRecord => gives(14, 0, 0, 0),
         Merged::ShortOutput => gives(12, 0, 0, 0),
+    }
+}
+
+// The first fault of an edit list.
+fn list_fault(why: ListFault) -> Numbered
+    ensures { λ r. ⌜ r ≡ listFaultTold why ⌝ }
+{
+    match why {
+        ListFault::BadEdit { place, fault } => {
+            reply::told::refusal_gives(edit_fault_number(fault), place, 0)
+        }
+        ListFault::TooMany(place) => reply::told::refusal_gives(9, place, 0),
+    }
+}
+
+// The paper's number for an edit that can't be taken.
+fn edit_fault_number(fault: Fault) -> u32
+    ensures { λ r. ⌜ r ≡ editFaultNumber fault ⌝ }
+{
+    match fault {
+        Fault::Malformed => 7,
+        Fault::BadName => 8,
     }
 }
 

@@ -58,14 +58,7 @@ pub fn next_with_prefix(kind: u32, s: &[u8], prefix: &[u8], place: usize, item: 
 }
 
 // The same by a table of byte classes and for ids of n digits.
-pub(crate) fn next_by(
-    t: &[u8; 256],
-    n: usize,
-    prefix: &[u8],
-    s: &[u8],
-    place: usize,
-    item: u64,
-) -> Step
+pub fn next_by(t: &[u8; 256], n: usize, prefix: &[u8], s: &[u8], place: usize, item: u64) -> Step
     ensures { λ r. ⌜ r ≡ stepOf (classesOf (now (t .entry))) n (now (prefix .entry)) (now (s .entry)) place item ⌝ }
 {
     if s.len() <= place {

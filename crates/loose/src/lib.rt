@@ -47,7 +47,7 @@ pub fn read(kind: u32, content: &[u8]) -> LooseAnswer
 }
 
 // The same by a table of byte classes and for ids of n digits.
-pub(crate) fn read_by(t: &[u8; 256], n: usize, content: &[u8]) -> Loose
+pub fn read_by(t: &[u8; 256], n: usize, content: &[u8]) -> Loose
     ensures { λ r. ⌜ r ≡ looseOf (classesOf (now (t .entry))) n (now (content .entry)) ⌝ }
 {
     if compare::prefix::begins_with(content, b"ref: ") {

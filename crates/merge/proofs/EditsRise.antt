@@ -25,7 +25,7 @@ use Rattle.sort.proofs.Pairs.{Each, each-map, Pairs, pairs-by}
 use Rattle.sort.proofs.Sorting.{each-sorted}
 use Rattle.sort.proofs.Theorems.{no-twin-names-rise}
 use Rattle.edit.specs.declared.list.Prepared.the-variants.{Ready, ShortIndex, TooLarge}
-use Rattle.edit.specs.List.{Listed, all, malformed, badName, tooMany, editsOf, placesOf, inOrder, twinsBy, twinsOf, preparedBy, preparedOf}
+use Rattle.edit.specs.List.{Listed, all, bad, editsOf, placesOf, inOrder, twinsBy, twinsOf, preparedBy, preparedOf}
 use Rattle.edit.proofs.Ordering.{length-order}
 use Rattle.merge.specs.Entry.{editsAt}
 use Rattle.merge.specs.Splice.{Above, Rising}
@@ -113,6 +113,4 @@ module _ (byte : Classes) (n : ℕ) (list : List ℕ) (room k : ℕ) where
       go : (t : Bool) (x : Listed) → editsOf byte n list ≡ x → if t TooLarge (preparedBy list room x) ≡ Ready k → Readied byte n list room k
       go true x q e = absurd (let z : _≡_ {A = ℕ} 0 1 = cc in omega arith)
       go false (all l) q e = ready-all l q e
-      go false (malformed p) q e = absurd (let z : _≡_ {A = ℕ} 0 1 = cc in omega arith)
-      go false (badName p) q e = absurd (let z : _≡_ {A = ℕ} 0 1 = cc in omega arith)
-      go false (tooMany p) q e = absurd (let z : _≡_ {A = ℕ} 0 1 = cc in omega arith)
+      go false (bad why) q e = absurd (let z : _≡_ {A = ℕ} 0 1 = cc in omega arith)

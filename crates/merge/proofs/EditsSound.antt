@@ -15,10 +15,11 @@ use Rattle.places.specs.Name.{editName}
 use Rattle.sort.proofs.Pairs.{Each}
 use Rattle.change.specs.declared.Change.{Change}
 use Rattle.change.specs.declared.Reading.{Reading}
-use Rattle.change.specs.declared.Reading.the-variants.{Good, Malformed, BadName}
+use Rattle.change.specs.declared.Reading.the-variants.{Good, Bad}
 use Rattle.change.specs.declared.Length.the-variants as long
 use Rattle.change.specs.Change.{lengthAt, idBytes, changeOf, behindName}
-use Rattle.edit.specs.List.{Listed, all, malformed, badName, tooMany, onto, listedBy, editsFrom, editsOf}
+use Rattle.edit.specs.declared.list.ListFault.the-variants.{TooMany}
+use Rattle.edit.specs.List.{Listed, all, bad, onto, listedBy, editsFrom, editsOf}
 use Rattle.text.specs.Text.{hexText}
 use Rattle.text.proofs.Laws.{length-hex, hex-is-hex}
 use Rattle.merge.specs.Entry.{newOf, editAt}
@@ -36,7 +37,7 @@ module _ (byte : Classes) (n : ℕ) (list : List ℕ) where
   edits-from turns place [] e = (tt, omega arith)
   edits-from zero place (p ∷ l) e = go (ltb place (length list)) e
     where
-      go : (t : Bool) → if t (tooMany place) (all []) ≡ all (p ∷ l) → Each IsEdit (p ∷ l) × (length (p ∷ l) ≤ 0)
+      go : (t : Bool) → if t (bad (TooMany place)) (all []) ≡ all (p ∷ l) → Each IsEdit (p ∷ l) × (length (p ∷ l) ≤ 0)
       go true e = absurd (let z : _≡_ {A = ℕ} 0 1 = cc in omega arith)
       go false e = absurd (let z : _≡_ {A = ℕ} 0 1 = cc in omega arith)
   edits-from (suc turns) place (p ∷ l) e = go (ltb place (length list)) (changeOf byte n (drop place list)) refl (λ k. edits-from turns k l) e
@@ -49,9 +50,7 @@ module _ (byte : Classes) (n : ℕ) (list : List ℕ) where
           let y : m ≡ l = cc in
           let w = rest (place + c .size) (r ∙ ap all y) in
           ((rw z at (good-whole byte n (drop place list) c q), w .0), omega (arith, w .1))
-      next c q (malformed k) r rest e = absurd (let z : _≡_ {A = ℕ} 0 1 = cc in omega arith)
-      next c q (badName k) r rest e = absurd (let z : _≡_ {A = ℕ} 0 1 = cc in omega arith)
-      next c q (tooMany k) r rest e = absurd (let z : _≡_ {A = ℕ} 0 1 = cc in omega arith)
+      next c q (bad why) r rest e = absurd (let z : _≡_ {A = ℕ} 0 1 = cc in omega arith)
 
       go : (t : Bool) (x : Reading) → changeOf byte n (drop place list) ≡ x
           → ((k : ℕ) → editsFrom byte n list turns k ≡ all l → Each IsEdit l × (length l ≤ turns))
@@ -59,8 +58,7 @@ module _ (byte : Classes) (n : ℕ) (list : List ℕ) where
           → Each IsEdit (p ∷ l) × (length (p ∷ l) ≤ suc turns)
       go false x q rest e = absurd (let z : _≡_ {A = ℕ} 0 1 = cc in omega arith)
       go true (Good c) q rest e = next c q (editsFrom byte n list turns (place + c .size)) refl rest e
-      go true Malformed q rest e = absurd (let z : _≡_ {A = ℕ} 0 1 = cc in omega arith)
-      go true BadName q rest e = absurd (let z : _≡_ {A = ℕ} 0 1 = cc in omega arith)
+      go true (Bad f) q rest e = absurd (let z : _≡_ {A = ℕ} 0 1 = cc in omega arith)
 
   pub places-edits : (places : List ℕ) → editsOf byte n list ≡ all places → Each IsEdit places × (length places ≤ 4096)
   unfolding editsOf

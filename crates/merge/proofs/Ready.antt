@@ -18,7 +18,8 @@ use Rattle.iter.specs.Items.{items}
 use Rattle.edit.specs.declared.list.Prepared.{Prepared}
 use Rattle.edit.specs.declared.list.Prepared.the-variants.{Ready, TooLarge}
 use Rattle.edit.specs.List.{editsOf, placesOf, inOrder, preparedBy, preparedOf, indexBy, indexAfter}
-use Rattle.merge.specs.declared.Merged.the-variants.{BadHeader}
+use Rattle.checks.specs.declared.Refusal.the-variants.{BadHeader}
+use Rattle.merge.specs.declared.Merged.the-variants.{Refused}
 use Rattle.merge.specs.Entry.{Edit, entriesOf}
 use Rattle.merge.specs.Merge.{oldEntries, judgedBy, judged, listed, mergeOf}
 use Rattle.merge.proofs.EditsRise.{Readied, readied}
@@ -62,7 +63,7 @@ module _ (byte : Classes) (n : ℕ) (file list : List ℕ) (indexRoom room : ℕ
 -- ---- by what was found of the header
 
 module _ (byte : Classes) (n : ℕ) (file : List ℕ) (edits : List Edit) (room : ℕ) where
-  pub bad-header : (text : ℕ) → headerOf byte file ≡ opened.Unreadable text → judged byte n file edits room ≡ BadHeader text
+  pub bad-header : (text : ℕ) → headerOf byte file ≡ opened.Unreadable text → judged byte n file edits room ≡ Refused (BadHeader text)
   unfolding judged checkOf
   bad-header text e = rw e
 

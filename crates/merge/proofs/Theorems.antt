@@ -58,15 +58,11 @@ module _ (n : ℕ) (file list : List ℕ) (indexRoom : ℕ) where
       by-verdict : (k : ℕ) → preparedOf paper n list indexRoom ≡ prepared.Ready k → (v : Verdict) → checkOf paper n file ≡ v
           → judgedBy (oldEntries paper n file) (editsInOrder paper n file list) room v ≡ Done len → Admitted
       by-verdict k p (verdict.Clean count) q e = record { k = k; ready = p; count = count; clean = q }
-      by-verdict k p (verdict.BadHeader text) q e = absurd (let z : _≡_ {A = ℕ} 0 1 = cc in omega arith)
-      by-verdict k p (verdict.BadRecord place f) q e = absurd (let z : _≡_ {A = ℕ} 0 1 = cc in omega arith)
-      by-verdict k p (verdict.Unsorted place) q e = absurd (let z : _≡_ {A = ℕ} 0 1 = cc in omega arith)
+      by-verdict k p (verdict.Refused why) q e = absurd (let z : _≡_ {A = ℕ} 0 1 = cc in omega arith)
 
       go : (p : Prepared) → preparedOf paper n list indexRoom ≡ p → listed paper n file list room p ≡ Done len → Admitted
       go (prepared.Ready k) q e = by-verdict k q (checkOf paper n file) refl e
-      go (prepared.Malformed place) q e = absurd (let z : _≡_ {A = ℕ} 0 1 = cc in omega arith)
-      go (prepared.BadName place) q e = absurd (let z : _≡_ {A = ℕ} 0 1 = cc in omega arith)
-      go (prepared.TooMany place) q e = absurd (let z : _≡_ {A = ℕ} 0 1 = cc in omega arith)
+      go (prepared.BadList why) q e = absurd (let z : _≡_ {A = ℕ} 0 1 = cc in omega arith)
       go prepared.ShortIndex q e = absurd (let z : _≡_ {A = ℕ} 0 1 = cc in omega arith)
       go (prepared.Twins place) q e = absurd (let z : _≡_ {A = ℕ} 0 1 = cc in omega arith)
       go prepared.TooLarge q e = absurd (let z : _≡_ {A = ℕ} 0 1 = cc in omega arith)

@@ -5,7 +5,10 @@ use lib.ListN.{length, replicate}
 use Rattle.decode.specs.declared.reference.Fault.the-variants.{Id}
 use Rattle.header.specs.Header.{mark}
 use Rattle.merge.specs.declared.Merged.{Merged}
-use Rattle.merge.specs.declared.Merged.the-variants.{Done, UnknownKind, TooLarge, Malformed, BadName, TooMany, ShortIndex, Twins, BadHeader, BadRecord, Unsorted, NothingToDo, NoRecord, ShortOutput}
+use Rattle.checks.specs.declared.Refusal.the-variants.{BadHeader, BadRecord, Unsorted}
+use Rattle.change.specs.declared.Fault.the-variants.{Malformed, BadName}
+use Rattle.edit.specs.declared.list.ListFault.the-variants.{BadEdit, TooMany}
+use Rattle.merge.specs.declared.Merged.the-variants.{Done, UnknownKind, TooLarge, BadList, ShortIndex, Twins, Refused, NothingToDo, NoRecord, ShortOutput}
 use Rattle.merge.specs.Merge.{headerLine, mergeAnswer, mergeNumber, indexAnswer, outputAfter}
 
 -- what is lent to a merge, its answer and the paper's number for it, and the index and the output afterwards
@@ -148,17 +151,17 @@ cases =
     -- 1, before all else: the edit list has no such edit kind either
     ∷ refused 3 [] (3 ∷ []) (7 ∷ []) (7 ∷ []) UnknownKind 1
     -- 7 and 8 with the edit's start, before the index is seen to be short
-    ∷ refused 1 [] (delete 97 ++ 3 ∷ []) [] [] (Malformed 10) 7
-    ∷ refused 1 [] (delete 97 ++ 0 ∷ 0 ∷ []) [] [] (BadName 10) 8
+    ∷ refused 1 [] (delete 97 ++ 3 ∷ []) [] [] (BadList (BadEdit 10 Malformed)) 7
+    ∷ refused 1 [] (delete 97 ++ 0 ∷ 0 ∷ []) [] [] (BadList (BadEdit 10 BadName)) 8
     -- 10: an index of one for two edits is unchanged, and that they are of one name is not seen
     ∷ refused 1 [] (delete 97 ++ delete 97) (7 ∷ []) (7 ∷ []) ShortIndex 10
     -- 11 tells the second place of the first equal pair, here of the edits of `b`; from it on the index is filled. `#` is not seen
     ∷ refused 1 (35 ∷ []) (delete 98 ++ (delete 97 ++ delete 98)) (7 ∷ 7 ∷ 7 ∷ []) (10 ∷ 0 ∷ 20 ∷ []) (Twins 20) 11
     -- 2 with the length of its text: `#x` CR LF
-    ∷ refused 1 (35 ∷ 120 ∷ crlf) (delete 97) (7 ∷ []) (0 ∷ []) (BadHeader 2) 2
+    ∷ refused 1 (35 ∷ 120 ∷ crlf) (delete 97) (7 ∷ []) (0 ∷ []) (Refused (BadHeader 2)) 2
     -- 4 and 6 with the item's place in the file, though there are deletes alone: `x` LF behind a record; `a` behind `b`
-    ∷ refused 1 (refLine 40 49 97 lf ++ 120 ∷ lf) (delete 98) (7 ∷ []) (0 ∷ []) (BadRecord 50 Id) 4
-    ∷ refused 1 (refLine 40 49 98 lf ++ refLine 40 49 97 lf) (delete 99) (7 ∷ []) (0 ∷ []) (Unsorted 50) 6
+    ∷ refused 1 (refLine 40 49 97 lf ++ 120 ∷ lf) (delete 98) (7 ∷ []) (0 ∷ []) (Refused (BadRecord 50 Id)) 4
+    ∷ refused 1 (refLine 40 49 98 lf ++ refLine 40 49 97 lf) (delete 99) (7 ∷ []) (0 ∷ []) (Refused (Unsorted 50)) 6
     -- 13: deletes alone of absent names, one before and one behind the record; no edits; an empty old file and a delete
     ∷ refused 1 (refLine 40 49 98 lf) (delete 99 ++ delete 97) (7 ∷ 7 ∷ []) (10 ∷ 0 ∷ []) NothingToDo 13
     ∷ refused 1 (refLine 40 49 98 lf) [] [] [] NothingToDo 13
@@ -178,4 +181,4 @@ numbered [] = []
 numbered (c ∷ l) = record { outcome = c .outcome; number = mergeNumber (c .outcome) } ∷ numbered l
 
 abbrev pub longInputs : List Numbered
-longInputs = record { outcome = TooMany 0; number = 9 } ∷ record { outcome = TooLarge; number = 17 } ∷ []
+longInputs = record { outcome = BadList (TooMany 0); number = 9 } ∷ record { outcome = TooLarge; number = 17 } ∷ []

@@ -11,17 +11,16 @@ use Rattle.compare.specs.Order.{orderOf, byOrder}
 use Rattle.header.specs.declared.Opened.{Opened}
 use Rattle.header.specs.declared.Opened.the-variants.{Header, Unreadable}
 use Rattle.header.specs.Header.{headerOf}
-use Rattle.decode.specs.Record.{faultNumber}
 use Rattle.checks.specs.declared.Verdict.{Verdict}
 use Rattle.checks.specs.declared.Verdict.the-variants as verdict
-use Rattle.checks.specs.Check.{checkOf}
+use Rattle.checks.specs.Check.{checkOf, refusalNumber}
 use Rattle.iter.specs.Items.{items}
 use Rattle.places.specs.Order.{same}
 use Rattle.edit.specs.declared.list.Prepared.{Prepared}
 use Rattle.edit.specs.declared.list.Prepared.the-variants as prepared
-use Rattle.edit.specs.List.{editsOf, placesOf, inOrder, preparedOf, indexAfter}
+use Rattle.edit.specs.List.{editsOf, placesOf, inOrder, preparedOf, indexAfter, listFaultNumber}
 use Rattle.merge.specs.declared.Merged.{Merged}
-use Rattle.merge.specs.declared.Merged.the-variants.{Done, UnknownKind, TooLarge, Malformed, BadName, TooMany, ShortIndex, Twins, BadHeader, BadRecord, Unsorted, NothingToDo, NoRecord, ShortOutput}
+use Rattle.merge.specs.declared.Merged.the-variants.{Done, UnknownKind, TooLarge, BadList, ShortIndex, Twins, Refused, NothingToDo, NoRecord, ShortOutput}
 use Rattle.merge.specs.Entry.{Entry, Edit, linesOfAll, entriesOf, editsAt}
 
 -- ---- the new records
@@ -78,9 +77,7 @@ bodyBy file (Unreadable text) = []
 -- "2, 4/6 by place", where these are the old records
 abbrev pub judgedBy : List Entry → List Edit → ℕ → Verdict → Merged
 judgedBy olds edits room (verdict.Clean count) = finished olds edits room
-judgedBy olds edits room (verdict.BadHeader text) = BadHeader text
-judgedBy olds edits room (verdict.BadRecord place f) = BadRecord place f
-judgedBy olds edits room (verdict.Unsorted place) = Unsorted place
+judgedBy olds edits room (verdict.Refused why) = Refused why
 
 module _ (byte : Classes) (n : ℕ) (file : List ℕ) where
   unfoldable pub oldEntries : List Entry
@@ -97,9 +94,7 @@ module _ (byte : Classes) (n : ℕ) (file : List ℕ) where
     -- "7/8/9 by place, 10, 11"
     abbrev pub listed : ℕ → Prepared → Merged
     listed room (prepared.Ready k) = judged editsInOrder room
-    listed room (prepared.Malformed place) = Malformed place
-    listed room (prepared.BadName place) = BadName place
-    listed room (prepared.TooMany place) = TooMany place
+    listed room (prepared.BadList why) = BadList why
     listed room prepared.ShortIndex = ShortIndex
     listed room (prepared.Twins place) = Twins place
     listed room prepared.TooLarge = TooLarge
@@ -119,14 +114,10 @@ abbrev pub outputBy : List ℕ → List ℕ → Merged → List ℕ
 outputBy new out (Done len) = new ++ drop len out
 outputBy new out UnknownKind = out
 outputBy new out TooLarge = out
-outputBy new out (Malformed place) = out
-outputBy new out (BadName place) = out
-outputBy new out (TooMany place) = out
+outputBy new out (BadList why) = out
 outputBy new out ShortIndex = out
 outputBy new out (Twins place) = out
-outputBy new out (BadHeader text) = out
-outputBy new out (BadRecord place f) = out
-outputBy new out (Unsorted place) = out
+outputBy new out (Refused why) = out
 outputBy new out NothingToDo = out
 outputBy new out NoRecord = out
 outputBy new out ShortOutput = out
@@ -147,14 +138,10 @@ abbrev pub mergeNumber : Merged → ℕ
 mergeNumber (Done len) = 0
 mergeNumber UnknownKind = 1
 mergeNumber TooLarge = 17
-mergeNumber (Malformed place) = 7
-mergeNumber (BadName place) = 8
-mergeNumber (TooMany place) = 9
+mergeNumber (BadList why) = listFaultNumber why
 mergeNumber ShortIndex = 10
 mergeNumber (Twins place) = 11
-mergeNumber (BadHeader text) = 2
-mergeNumber (BadRecord place f) = faultNumber f
-mergeNumber (Unsorted place) = 6
+mergeNumber (Refused why) = refusalNumber why
 mergeNumber NothingToDo = 13
 mergeNumber NoRecord = 14
 mergeNumber ShortOutput = 12

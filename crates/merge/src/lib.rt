@@ -14,8 +14,9 @@ ghost use Rattle.merge.specs.Entry.{entriesOf, editsAt};
 ghost use Rattle.merge.specs.Merge.{mergeAnswer, outputAfter, indexAnswer, mergeOf, outputBy, newFile, oldEntries, editsInOrder, judged, judgedBy};
 ghost use Rattle.runs.specs.Runs.{isStill};
 ghost use Rattle.merge.specs.Splice.{splicedFile, splicedAnswer, Rising};
+use checks::Refusal;
 use checks::Verdict;
-use decode::reference::Fault;
+use edit::list::ListFault;
 use edit::list::Prepared;
 use header::Opened;
 use parse::limit::Admission;
@@ -27,17 +28,13 @@ pub enum Merged {
     Done(usize),
     UnknownKind,
     TooLarge,
-    // The first fault of the edit list, and the place of its edit.
-    Malformed(usize),
-    BadName(usize),
-    TooMany(usize),
+    // The first fault of the edit list.
+    BadList(ListFault),
     ShortIndex,
     // Two edits of one name: the second place of the first equal pair.
     Twins(u32),
-    // What the check says of the old file.
-    BadHeader(usize),
-    BadRecord { place: usize, fault: Fault },
-    Unsorted(usize),
+    // Why the old file does not pass the check.
+    Refused(Refusal),
     NothingToDo,
     // The file is to be removed.
     NoRecord,
@@ -76,9 +73,7 @@ fn merge_by(
 {
     match edit::list::prepare(t, n, list, index) {
         Prepared::Ready(k) => with_edits(t, n, old, list, &index[0..k], out),
-        Prepared::Malformed(place) => Merged::Malformed(place),
-        Prepared::BadName(place) => Merged::BadName(place),
-        Prepared::TooMany(place) => Merged::TooMany(place),
+        Prepared::BadList(why) => Merged::BadList(why),
         Prepared::ShortIndex => Merged::ShortIndex,
         Prepared::Twins(place) => Merged::Twins(place),
         Prepared::TooLarge => Merged::TooLarge,
@@ -99,7 +94,7 @@ fn with_edits(
     ensures { λ r. ⌜ now (out .exit) ≡ outputBy (newFile (oldEntries paper n (now (old .entry))) (editsAt n (now (list .entry)) (now (index .entry)))) (now (out .entry)) r ⌝ }
 {
     match header::open(t, old) {
-        Opened::Unreadable(text) => Merged::BadHeader(text),
+        Opened::Unreadable(text) => Merged::Refused(Refusal::BadHeader(text)),
         Opened::Header(h) => behind_header(t, n, old, h.body, list, index, out),
     }
 }
@@ -121,9 +116,7 @@ fn behind_header(
     let mut marks = no_marks();
     match runs::survey(t, n, old, body, list, index, &mut marks) {
         Verdict::Clean(_) => finish(n, old, body, list, index, &marks, out),
-        Verdict::BadHeader(text) => Merged::BadHeader(text),
-        Verdict::BadRecord { place, fault } => Merged::BadRecord { place, fault },
-        Verdict::Unsorted(place) => Merged::Unsorted(place),
+        Verdict::Refused(why) => Merged::Refused(why),
     }
 }
 

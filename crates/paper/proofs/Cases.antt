@@ -17,7 +17,12 @@ use Rattle.iter.specs.Items.{sizeOf, itemsBehind, items}
 use Rattle.checks.specs.Check.{judgeBody, checkOf, checkAnswer}
 use Rattle.search.specs.Search.{probedOf, halve, searchOf}
 use Rattle.find.specs.Lookup.{lookupOf, lookupAnswer}
-use Rattle.change.specs.Change.{lengthAt}
+use Rattle.places.specs.Name.{editName}
+use Rattle.sort.specs.Sorted.{sorted}
+use Rattle.sort.specs.Twin.{firstTwin}
+use Rattle.change.specs.Change.{lengthAt, changeOf, namedChange, behindName}
+use Rattle.edit.specs.List.{editsFrom, editsOf, twinsOf, preparedOf}
+use Rattle.merge.specs.Merge.{finished, oldEntries, judged, editsInOrder, mergeOf, mergeAnswer}
 use Rattle.loose.specs.Loose.{symbolicOf, looseOf, looseAnswer}
 use Rattle.paper.specs.Cases.{EveryCase}
 
@@ -25,4 +30,5 @@ pub every-case : EveryCase
 unfolding isHex isForbidden isLineEnd byteAt idAt eol newlineAt textAt headerOf recordOf shapeOf recordStart firstItem startOf more stepOf runOf readOf sizeOf itemsBehind items
     noComponentBeginsWithDot noLockAtTheEnd hasSlash noDotDot noForbiddenByte slashesApart noDotAtTheEnd noAtBrace notTheLoneAt validName
     judgeBody checkOf checkAnswer probedOf halve searchOf lookupOf lookupAnswer lengthAt symbolicOf looseOf looseAnswer admission digitsOf overLimit
+    changeOf namedChange behindName editName sorted firstTwin editsFrom editsOf twinsOf preparedOf finished oldEntries judged editsInOrder mergeOf mergeAnswer
 every-case = refl

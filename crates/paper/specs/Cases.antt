@@ -5,16 +5,17 @@ use mathlib.Core.List.{List, [], _∷_, _++_, map}
 use Prim.Native.Nat.{ℕ}
 use lib.ListN.{take, drop, replicate}
 use Rattle.class.specs.Class.{paper}
-use Rattle.checks.specs.Check.{checkAnswer, checkNumber}
+use Rattle.checks.specs.Check.{checkAnswer, checkNumber, refusalNumber}
 use Rattle.checks.specs.declared.CheckAnswer.{CheckAnswer}
 use Rattle.checks.specs.declared.CheckAnswer.the-variants as checked
-use Rattle.checks.specs.declared.Verdict.the-variants.{Clean, BadHeader, BadRecord, Unsorted}
+use Rattle.checks.specs.declared.Verdict.the-variants.{Clean, Refused}
 use Rattle.handed.specs.Handed.{Handed, good, error, whats}
 use Rattle.handed.specs.Run.{readOf, outOf}
 use Rattle.find.specs.Lookup.{lookupAnswer, lookupNumber}
 use Rattle.change.specs.declared.Length.{Length}
 use Rattle.change.specs.declared.Length.the-variants.{Of, Malformed}
 use Rattle.change.specs.Change.{lengthAt}
+use Rattle.merge.specs.Merge.{mergeAnswer, mergeNumber}
 use Rattle.loose.specs.declared.Loose.the-variants.{Id, Symbolic, Unreadable, BadTarget}
 use Rattle.loose.specs.declared.LooseAnswer.{LooseAnswer}
 use Rattle.loose.specs.declared.LooseAnswer.the-variants as loosely
@@ -29,6 +30,8 @@ pub data Question : Type 0 where
   lookup : (bytes name : List ℕ) → Question
   -- the length that an edit's name has, by its one or two groups
   nameLength : List ℕ → Question
+  -- a whole list of one edit: a merge with no old file, an index of one entry and no output
+  merge : List ℕ → Question
   loose : List ℕ → Question
 
 pub data Outcome : Type 0 where
@@ -36,21 +39,19 @@ pub data Outcome : Type 0 where
   -- a number of the paper
   number : ℕ → Outcome
   count : ℕ → Outcome
+  malformed : Outcome
   symbolic : List ℕ → Outcome
   id : List ℕ → Outcome
 
 abbrev pub checkOutcome : CheckAnswer → Outcome
 checkOutcome (checked.Done (Clean k)) = count k
-checkOutcome (checked.Done (BadHeader text)) = number (checkNumber (checked.Done (BadHeader text)))
-checkOutcome (checked.Done (BadRecord place f)) = number (checkNumber (checked.Done (BadRecord place f)))
-checkOutcome (checked.Done (Unsorted place)) = number (checkNumber (checked.Done (Unsorted place)))
+checkOutcome (checked.Done (Refused why)) = number (refusalNumber why)
 checkOutcome checked.UnknownKind = number (checkNumber checked.UnknownKind)
 checkOutcome checked.TooLarge = number (checkNumber checked.TooLarge)
 
--- a length that is malformed gives 7
 abbrev pub lengthOutcome : Length → Outcome
 lengthOutcome (Of value next) = count value
-lengthOutcome Malformed = number 7
+lengthOutcome Malformed = malformed
 
 abbrev pub looseOutcome : List ℕ → LooseAnswer → Outcome
 looseOutcome content (loosely.Done (Id n)) = id (take n content)
@@ -66,6 +67,7 @@ answered (iterate bytes) = gives (whats (outOf (readOf paper 40 bytes)))
 answered (check bytes) = checkOutcome (checkAnswer 1 bytes)
 answered (lookup bytes name) = number (lookupNumber (lookupAnswer 1 bytes name))
 answered (nameLength bytes) = lengthOutcome (lengthAt bytes 0)
+answered (merge list) = number (mergeNumber (mergeAnswer 1 [] list 1 0))
 answered (loose content) = looseOutcome content (looseAnswer 1 content)
 
 -- ---- the cases
@@ -107,7 +109,10 @@ cases =
     -- "P length 8 as one byte 8; P 128 as 128, 1; P 8 as 136, 0: number 7."
     ∷ case (nameLength (8 ∷ [])) (count 8)
     ∷ case (nameLength (128 ∷ 1 ∷ [])) (count 128)
-    ∷ case (nameLength (136 ∷ 0 ∷ [])) (number 7)
+    ∷ case (nameLength (136 ∷ 0 ∷ [])) malformed
+    -- a delete of `refs/s/a` with its length so is 7; with the length as one byte 8 it is read, and there is nothing to do
+    ∷ case (merge (0 ∷ 136 ∷ 0 ∷ refsSA)) (number 7)
+    ∷ case (merge (0 ∷ 8 ∷ refsSA)) (number 13)
     -- "P loose `ref:  refs/s/a` LF: symbolic. P forty-one digits: 15."
     ∷ case (loose (114 ∷ 101 ∷ 102 ∷ 58 ∷ 32 ∷ 32 ∷ (refsSA ++ 10 ∷ []))) (symbolic refsSA)
     ∷ case (loose (ones 41)) (number 15)

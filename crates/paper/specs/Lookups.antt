@@ -4,6 +4,7 @@ use Prim.Native.Nat.{ℕ}
 use lib.ListN.{replicate}
 use Rattle.class.specs.Class.{paper}
 use Rattle.decode.specs.declared.reference.Fault.the-variants.{Id, Peeled}
+use Rattle.checks.specs.declared.Refusal.the-variants.{BadRecord}
 use Rattle.find.specs.declared.lookup.Lookup.{Lookup}
 use Rattle.find.specs.declared.lookup.Lookup.the-variants as lookup
 use Rattle.ask.specs.declared.Told.{Told}
@@ -39,10 +40,10 @@ cases =
     -- empty bytes: lookup of `refs/s/a` gives 5
     record { bytes = []; found = lookup.Absent; asked = told.Absent }
     -- a line that can't be read: never absent
-    ∷ record { bytes = 120 ∷ 10 ∷ []; found = lookup.Unsure; asked = told.BadRecord 0 Id }
+    ∷ record { bytes = 120 ∷ 10 ∷ []; found = lookup.Unsure; asked = told.Refused (BadRecord 0 Id) }
     -- a record of that name, and one of another
     ∷ record { bytes = line 97 []; found = lookup.Charted 0 (record { name = 8; object = 0; size = 50 }); asked = told.Charted 0 (record { name = 8; object = 0; size = 50 }) }
     ∷ record { bytes = line 98 []; found = lookup.Absent; asked = told.Absent }
     -- a bad `^` line spoils the record before it: a hit gives 4 with its place
-    ∷ record { bytes = line 97 (94 ∷ 122 ∷ 122 ∷ 10 ∷ []); found = lookup.BadRecord 0 Peeled; asked = told.BadRecord 0 Peeled }
+    ∷ record { bytes = line 97 (94 ∷ 122 ∷ 122 ∷ 10 ∷ []); found = lookup.BadRecord 0 Peeled; asked = told.Refused (BadRecord 0 Peeled) }
     ∷ []

@@ -7,7 +7,8 @@ use Rattle.class.specs.Class.{paper}
 use Rattle.parse.specs.Limit.{overLimit}
 use Rattle.name.specs.Name.{validName}
 use Rattle.header.specs.declared.HeaderAnswer.{HeaderAnswer}
-use Rattle.header.specs.declared.HeaderAnswer.the-variants.{Done, Unreadable, TooLarge}
+use Rattle.header.specs.declared.HeaderAnswer.the-variants.{Done, TooLarge}
+use Rattle.header.specs.declared.Opened.the-variants.{Header, Unreadable}
 use Rattle.header.specs.Header.{headerNumber}
 use Rattle.reply.specs.declared.head.HeaderReply.{HeaderReply}
 use Rattle.reply.specs.Told.{peeledNumber}
@@ -18,9 +19,9 @@ headerBare number textLen = record { number = number; peeled = 0; sorted = 0; pl
 
 -- what stands beside a number
 abbrev pub headerBeside : ℕ → HeaderAnswer → HeaderReply
-headerBeside number (Done h) =
+headerBeside number (Done (Header h)) =
     record { number = number; peeled = peeledNumber (h .peeled); sorted = if (h .sorted) 1 0; place = h .body; «text_len» = 0 }
-headerBeside number (Unreadable text) = headerBare number text
+headerBeside number (Done (Unreadable text)) = headerBare number text
 headerBeside number TooLarge = headerBare number 0
 
 abbrev pub headerReply : HeaderAnswer → HeaderReply

@@ -17,7 +17,8 @@ use Rattle.ask.specs.Ask.{askNumber}
 use Rattle.reply.specs.declared.seek.LookupReply.{LookupReply}
 use Rattle.reply.specs.declared.seek.PrefixReply.{PrefixReply}
 use Rattle.reply.specs.declared.seek.AskReply.{AskReply}
-use Rattle.reply.specs.Told.{Near, nameAt, peeledAt}
+use Rattle.reply.specs.declared.told.Numbered.{Numbered}
+use Rattle.reply.specs.Told.{Near, nameAt, peeledAt, refusalBeside}
 
 -- ---- lookup
 
@@ -71,6 +72,9 @@ abbrev pub askBare : ℕ → ℕ → ℕ → AskReply
 askBare number place textLen =
     record { number = number; place = place; «name_at» = 0; «name_len» = 0; «peeled_at» = 0; «text_len» = textLen }
 
+abbrev pub askRefused : Numbered → AskReply
+askRefused r = askBare (r .number) (r .place) (r .«text_len»)
+
 abbrev pub askBeside : ℕ → ℕ → AskAnswer → AskReply
 askBeside number kind (ask.Done (told.Charted place r)) =
     record {
@@ -83,9 +87,7 @@ askBeside number kind (ask.Done (told.Charted place r)) =
     }
 askBeside number kind (ask.Done told.Absent) = askBare number 0 0
 askBeside number kind (ask.Done told.BadName) = askBare number 0 0
-askBeside number kind (ask.Done (told.BadHeader text)) = askBare number 0 text
-askBeside number kind (ask.Done (told.BadRecord place f)) = askBare number place 0
-askBeside number kind (ask.Done (told.Unsorted place)) = askBare number place 0
+askBeside number kind (ask.Done (told.Refused why)) = askRefused (refusalBeside number why)
 askBeside number kind ask.UnknownKind = askBare number 0 0
 askBeside number kind ask.TooLarge = askBare number 0 0
 

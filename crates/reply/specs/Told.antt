@@ -1,4 +1,4 @@
--- The places of a record that starts at a place, counted where that is counted; numbers for an enum.
+-- The places of a record that starts at a place, counted where that is counted; a refusal and what stands beside it; numbers for an enum.
 use Prim.Native.Nat.{ℕ, _+_, _≤_}
 use lib.Dec.{eqb}
 use Rattle.parse.specs.declared.limit.IdKind.{IdKind}
@@ -6,6 +6,10 @@ use Rattle.parse.specs.declared.limit.IdKind.the-variants.{Digits, Unknown}
 use Rattle.parse.specs.Choice.{if}
 use Rattle.parse.specs.Limit.{digitsOf}
 use Rattle.decode.specs.declared.reference.Record.{Record}
+use Rattle.checks.specs.declared.Refusal.{Refusal}
+use Rattle.checks.specs.declared.Refusal.the-variants.{BadHeader, BadRecord, Unsorted}
+use Rattle.checks.specs.Check.{refusalNumber}
+use Rattle.reply.specs.declared.told.Numbered.{Numbered}
 use Rattle.header.specs.declared.Peeled.{Peeled}
 use Rattle.header.specs.declared.Peeled.the-variants.{Unspecified, Partial, Fully}
 
@@ -25,6 +29,19 @@ nameAt kind place = place + idLen (digitsOf kind) + 1
 -- the peeled id stands at a place of the record that is not 0, if it has one
 unfoldable pub peeledAt : ℕ → ℕ → ℕ
 peeledAt place object = if (eqb object 0) 0 (place + object)
+
+-- "Beside the number, check and merge give the item's place in the lent file for 4 and 6, .. and 2 its text; nothing else is given with a
+-- refusal."
+abbrev pub refusalGives : ℕ → ℕ → ℕ → Numbered
+refusalGives number place textLen = record { number = number; place = place; «text_len» = textLen }
+
+abbrev pub refusalBeside : ℕ → Refusal → Numbered
+refusalBeside number (BadHeader text) = refusalGives number 0 text
+refusalBeside number (BadRecord place f) = refusalGives number place 0
+refusalBeside number (Unsorted place) = refusalGives number place 0
+
+abbrev pub refusalTold : Refusal → Numbered
+refusalTold why = refusalBeside (refusalNumber why) why
 
 -- "one of three peeled states (unspecified, partial, fully)"
 abbrev pub peeledNumber : Peeled → ℕ

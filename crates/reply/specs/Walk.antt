@@ -17,7 +17,8 @@ use Rattle.checks.specs.Check.{checkNumber}
 use Rattle.reply.specs.declared.walk.StartReply.{StartReply}
 use Rattle.reply.specs.declared.walk.StepReply.{StepReply}
 use Rattle.reply.specs.declared.walk.CheckReply.{CheckReply}
-use Rattle.reply.specs.Told.{Near, nameAt, peeledAt}
+use Rattle.reply.specs.declared.told.Numbered.{Numbered}
+use Rattle.reply.specs.Told.{Near, nameAt, peeledAt, refusalBeside}
 
 -- ---- the start
 
@@ -95,11 +96,12 @@ StepNear place a = (r : Record) (next item : ℕ) → a ≡ step.Done (Good r ne
 abbrev pub checkGives : ℕ → ℕ → ℕ → ℕ → CheckReply
 checkGives number place count textLen = record { number = number; place = place; count = count; «text_len» = textLen }
 
+abbrev pub checkRefused : Numbered → CheckReply
+checkRefused r = checkGives (r .number) (r .place) 0 (r .«text_len»)
+
 abbrev pub checkBeside : ℕ → CheckAnswer → CheckReply
 checkBeside number (check.Done (verdict.Clean count)) = checkGives number 0 count 0
-checkBeside number (check.Done (verdict.BadHeader text)) = checkGives number 0 0 text
-checkBeside number (check.Done (verdict.BadRecord place f)) = checkGives number place 0 0
-checkBeside number (check.Done (verdict.Unsorted place)) = checkGives number place 0 0
+checkBeside number (check.Done (verdict.Refused why)) = checkRefused (refusalBeside number why)
 checkBeside number check.UnknownKind = checkGives number 0 0 0
 checkBeside number check.TooLarge = checkGives number 0 0 0
 

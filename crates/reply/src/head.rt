@@ -3,6 +3,7 @@ ghost use mathlib.Core.Path.{_≡_};
 ghost use Rattle.header.specs.Header.{headerAnswer};
 ghost use Rattle.reply.specs.Head.{headerReply, headerBare, nameNumber};
 use header::HeaderAnswer;
+use header::Opened;
 
 #[repr(C)]
 pub struct HeaderReply {
@@ -26,17 +27,19 @@ fn header_told(answer: HeaderAnswer) -> HeaderReply
     ensures { λ r. ⌜ r ≡ headerReply answer ⌝ }
 {
     match answer {
-        HeaderAnswer::Done(h) => {
-            let peeled = h.peeled;
-            HeaderReply {
-                number: 0,
-                peeled: crate::told::peeled_number(peeled),
-                sorted: crate::told::flag(h.sorted),
-                place: h.body,
-                text_len: 0,
+        HeaderAnswer::Done(said) => match said {
+            Opened::Header(h) => {
+                let peeled = h.peeled;
+                HeaderReply {
+                    number: 0,
+                    peeled: crate::told::peeled_number(peeled),
+                    sorted: crate::told::flag(h.sorted),
+                    place: h.body,
+                    text_len: 0,
+                }
             }
+            Opened::Unreadable(text) => bare(2, text),
         },
-        HeaderAnswer::Unreadable(text) => bare(2, text),
         HeaderAnswer::TooLarge => bare(17, 0),
     }
 }

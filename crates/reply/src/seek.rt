@@ -143,11 +143,10 @@ fn ask_told(kind: u32, answer: AskAnswer) -> AskReply
             },
             Told::Absent => ask_bare(5, 0, 0),
             Told::BadName => ask_bare(3, 0, 0),
-            Told::BadHeader(text) => ask_bare(2, 0, text),
-            Told::BadRecord { place, fault } => {
-                ask_bare(crate::told::fault_number(fault), place, 0)
+            Told::Refused(why) => {
+                let told = crate::told::refusal(why);
+                ask_bare(told.number, told.place, told.text_len)
             }
-            Told::Unsorted(place) => ask_bare(6, place, 0),
         },
         AskAnswer::UnknownKind => ask_bare(1, 0, 0),
         AskAnswer::TooLarge => ask_bare(17, 0, 0),

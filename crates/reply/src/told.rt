@@ -1,9 +1,10 @@
-// What several answers have in common: a record's places, and numbers for enums.
+// What several answers have in common: a record's places, a refusal, and numbers for enums.
 ghost use mathlib.Core.Path.{_≡_};
 ghost use Prim.Native.Nat.{_≤_};
 ghost use Rattle.parse.specs.Choice.{if};
 ghost use Rattle.decode.specs.Record.{faultNumber};
-ghost use Rattle.reply.specs.Told.{nameAt, peeledAt, peeledNumber};
+ghost use Rattle.reply.specs.Told.{nameAt, peeledAt, refusalGives, refusalTold, peeledNumber};
+use checks::Refusal;
 use decode::reference::Fault;
 use header::Peeled;
 use parse::limit::IdKind;
@@ -28,6 +29,34 @@ pub(crate) fn peeled_at(place: usize, object: usize) -> usize
         return 0;
     }
     place + object
+}
+
+// A refusal's number and what stands beside it: a place, or the length of a text; else 0.
+pub struct Numbered {
+    pub number: u32,
+    pub place: usize,
+    pub text_len: usize,
+}
+
+// Why a file does not pass the check.
+pub fn refusal(why: Refusal) -> Numbered
+    ensures { λ r. ⌜ r ≡ refusalTold why ⌝ }
+{
+    match why {
+        Refusal::BadHeader(text) => refusal_gives(2, 0, text),
+        Refusal::BadRecord { place, fault } => refusal_gives(fault_number(fault), place, 0),
+        Refusal::Unsorted(place) => refusal_gives(6, place, 0),
+    }
+}
+
+pub fn refusal_gives(number: u32, place: usize, text: usize) -> Numbered
+    ensures { λ r. ⌜ r ≡ refusalGives number place text ⌝ }
+{
+    Numbered {
+        number,
+        place,
+        text_len: text,
+    }
 }
 
 // The paper's number for a part that can't be read.

@@ -178,11 +178,10 @@ fn check_told(answer: CheckAnswer) -> CheckReply
     match answer {
         CheckAnswer::Done(verdict) => match verdict {
             Verdict::Clean(count) => check_gives(0, 0, count, 0),
-            Verdict::BadHeader(text) => check_gives(2, 0, 0, text),
-            Verdict::BadRecord { place, fault } => {
-                check_gives(crate::told::fault_number(fault), place, 0, 0)
+            Verdict::Refused(why) => {
+                let told = crate::told::refusal(why);
+                check_gives(told.number, told.place, 0, told.text_len)
             }
-            Verdict::Unsorted(place) => check_gives(6, place, 0, 0),
         },
         CheckAnswer::UnknownKind => check_gives(1, 0, 0, 0),
         CheckAnswer::TooLarge => check_gives(17, 0, 0, 0),

@@ -19,8 +19,11 @@ use Rattle.iter.specs.Items.{Item, items, nameOf}
 use Rattle.iter.proofs.ItemRead.{Reads, named}
 use Rattle.iter.proofs.Items.{items-nil}
 use Rattle.iter.proofs.Turns.{head-bad, head-good}
-use Rattle.checks.specs.declared.Verdict.the-variants.{Clean, Unsorted}
+use Rattle.checks.specs.declared.Verdict.the-variants.{Clean, Refused}
+use Rattle.checks.specs.declared.Refusal.{Refusal}
+use Rattle.checks.specs.declared.Refusal.the-variants.{BadHeader, BadRecord, Unsorted}
 use Rattle.checks.specs.Check.{orElse, judge, judgeBody}
+use Rattle.checks.proofs.CheckTurns.{Spot, Stopped}
 use Rattle.put.specs.Put.{over}
 use Rattle.put.proofs.Laws.{over-nil, over-twice}
 use Rattle.places.specs.Name.{editName}
@@ -54,7 +57,7 @@ module _ (byte : Classes) (n : ℕ) (file list index : List ℕ) where
     pub marked-end : length file ≤ place → marked place last j marks ≡ over marks (2 * j) (marksOf (atEnd place (drop j index)))
     marked-end h = rw (drop-of-length-le file h, items-nil byte n)
 
-    pub marked-bad : {f : Fault} → Reads byte n file place (Bad f) → marked place last j marks ≡ marks
+    marked-bad : {f : Fault} → Reads byte n file place (Bad f) → marked place last j marks ≡ marks
     marked-bad {f} k = let h = head-bad byte n file place (k .inside) f (k .is) in rw (h .all, h .is) (over-nil marks (2 * j))
 
     module _ {r : Record} (k : Reads byte n file place (Good r)) where
@@ -68,7 +71,7 @@ module _ (byte : Classes) (n : ℕ) (file list index : List ℕ) where
           ≡ if (smaller last (named k)) (here ++ behind (drop (length here) (drop j index))) []
       surveyed-here = let h = head-good byte n file place r (k .is) (k .inside) in rw (h .all, h .is, h .name, h .long)
 
-      pub marked-unsorted : smaller last (named k) ≡ false → marked place last j marks ≡ marks
+      marked-unsorted : smaller last (named k) ≡ false → marked place last j marks ≡ marks
       marked-unsorted e = rw (surveyed-here, e) (over-nil marks (2 * j))
 
       pub marked-on : smaller last (named k) ≡ true → (x : List ℕ) → x ≡ named k → (j′ : ℕ) (marks′ : List ℕ) → j′ ≡ j + length here
@@ -85,6 +88,13 @@ module _ (byte : Classes) (n : ℕ) (file list index : List ℕ) where
           ∙ ap (λ b. over marks (2 * j) (marksOf (if b (here ++ behind (drop (length here) (drop j index))) []))) (sym e)
           ∙ ap (λ l. over marks (2 * j) (marksOf l)) (sym surveyed-here)
 
+-- where the check stops, no further edit gets a run
+pub marked-stop : (s : Spot) (list index : List ℕ) (j : ℕ) (marks : List ℕ) (why : Refusal) → Stopped s why
+    → marked (s .byte) (s .n) (s .file) list index (s .place) (s .last) j marks ≡ marks
+marked-stop s list index j marks (BadHeader text) x = absurd x
+marked-stop s list index j marks (BadRecord place f) (here, k) = marked-bad (s .byte) (s .n) (s .file) list index (s .place) (s .last) j marks k
+marked-stop s list index j marks (Unsorted place) (here, r, k, e) = marked-unsorted (s .byte) (s .n) (s .file) list index (s .place) (s .last) j marks k e
+
 -- in a file that passes there is no fault before an edit
 pub surveyed-clean : (n : ℕ) (list : List ℕ) (place count : ℕ) (last : List ℕ) (l : List Item) (ps : List ℕ) (all : ℕ) → judge n place count last l ≡ Clean all
     → surveyed n list place last l ps ≡ runsOf n list place l ps
@@ -100,7 +110,7 @@ surveyed-clean n list place count last (i ∷ l) ps all e =
 
     go : (w : Reading) (name : List ℕ) (b : Bool) → smaller last name ≡ b
         → ((qs : List ℕ) (c : ℕ) → judge n next (suc count) name l ≡ Clean c → surveyed n list next name l qs ≡ runsOf n list next l qs)
-        → orElse w place (if (smaller last name) (judge n next (suc count) name l) (Unsorted place)) ≡ Clean all
+        → orElse w place (if (smaller last name) (judge n next (suc count) name l) (Refused (Unsorted place))) ≡ Clean all
         → untilFault w (if (smaller last name) (here name ++ surveyed n list next name l (drop (length (here name)) ps)) [])
         ≡ here name ++ runsOf n list next l (drop (length (here name)) ps)
     go (Bad f) name b v later d = absurd (let z : _≡_ {A = ℕ} 0 1 = cc in omega arith)

@@ -36,11 +36,8 @@ pub fn survey(
                 settle_rest(index, j, place, marks);
                 return Verdict::Clean(count);
             }
-            Turn::Bad(fault) => {
-                return Verdict::BadRecord { place, fault };
-            }
-            Turn::Unsorted => {
-                return Verdict::Unsorted(place);
+            Turn::Refused(why) => {
+                return Verdict::Refused(why);
             }
             Turn::On(found) => {
                 last = decode::reference::name_of(&file[place..], n, found);

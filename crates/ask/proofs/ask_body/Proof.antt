@@ -105,8 +105,8 @@ returns c =
     let k = c .before .before in
     sym (ask-end (here k) (name k) (count k) (tells k _ (c .enum-told .given .1))) ∙ k .before .loop .inv .1
 
-enum-known-fault : tie.Need-enum-known-fault Inv-loop μ-loop
-enum-known-fault c = search needs
+enum-known-why : tie.Need-enum-known-why Inv-loop μ-loop
+enum-known-why c = search needs
 
 first-named-requires : tie.Need-first-named-requires Inv-loop μ-loop
 first-named-requires c κs = search needs
@@ -117,21 +117,7 @@ verdict-unless-requires c κs = search needs
 returns-2 : tie.Need-returns-2 Inv-loop μ-loop
 returns-2 c =
     let f = c .before .before .before in
-    c .verdict-unless .ensures ∙ ended (f .before .before) _ (f .fault .given .1) _ (c .before .first-named .ensures)
-
-enum-told-2 : tie.Need-enum-told-2 Inv-loop μ-loop
-enum-told-2 c = search needs
-
-first-named-requires-2 : tie.Need-first-named-requires-2 Inv-loop μ-loop
-first-named-requires-2 c κs = search needs
-
-verdict-unless-requires-2 : tie.Need-verdict-unless-requires-2 Inv-loop μ-loop
-verdict-unless-requires-2 c κs = search needs
-
-returns-3 : tie.Need-returns-3 Inv-loop μ-loop
-returns-3 c =
-    let u = c .before .before in
-    c .verdict-unless2 .ensures ∙ ended (u .before .before) _ (u .enum-told2 .given .1) _ (c .before .first-named2 .ensures)
+    c .verdict-unless .ensures ∙ ended (f .before .before) _ (f .why .given .1) _ (c .before .first-named .ensures)
 
 enum-known-found : tie.Need-enum-known-found Inv-loop μ-loop
 enum-known-found c = search needs
@@ -151,8 +137,8 @@ name-of-requires c κs = search needs
 is-same-requires : tie.Need-is-same-requires Inv-loop μ-loop
 is-same-requires c κs = search needs
 
-returns-4 : tie.Need-returns-4 Inv-loop μ-loop
-returns-4 c =
+returns-3 : tie.Need-returns-3 Inv-loop μ-loop
+returns-3 c =
     let f = of-record (c .before) in
     let k = its f in
     sym (ask-found (here k) (name k) (count k) (it f) (on f) (wanted-is (c .before) ∙ c .if1 .taken)) ∙ k .before .loop .inv .1
@@ -185,21 +171,17 @@ ask-body-spec =
     take-turn-requires
     enum-told
     returns
-    enum-known-fault
+    enum-known-why
     first-named-requires
     verdict-unless-requires
     returns-2
-    enum-told-2
-    first-named-requires-2
-    verdict-unless-requires-2
-    returns-3
     enum-known-found
     sub-name-of
     part-name-of-start
     part-name-of-end
     name-of-requires
     is-same-requires
-    returns-4
+    returns-3
     add-place
     loop-less
     loop-again)

@@ -102,11 +102,11 @@ returns-4 c =
     (bad-name (byte b) (s b) (a .kind) (a .from) (a .len) (a .ids) (e .before .if1 .left) (e .if2 .left) (stands (full v))
     (valid-is v ∙ not-true _ (c .if4 .taken)))
 
-add-t10 : tie.Need-add-t10
-add-t10 c = let f = full (c .before) in omega (arith, inside f, start (sized f) .good)
+add-size : tie.Need-add-size
+add-size c = let f = full (c .before) in omega (arith, inside f, start (sized f) .good)
 
-add-t11 : tie.Need-add-t11
-add-t11 c = let f = full (c .before) in omega (arith, inside f, start (sized f) .good)
+add-size-2 : tie.Need-add-size-2
+add-size-2 c = let f = full (c .before) in omega (arith, inside f, start (sized f) .good)
 
 returns-5 : tie.Need-returns-5
 returns-5 c =
@@ -121,4 +121,4 @@ returns-5 c =
 pub behind-length-spec : {M : Type 1} → statement M
 behind-length-spec =
     tie.close
-    (tie.spec returns returns-2 stands-requires returns-3 add-between between-requires is-valid-by-requires returns-4 add-t10 add-t11 returns-5)
+    (tie.spec returns returns-2 stands-requires returns-3 add-between between-requires is-valid-by-requires returns-4 add-size add-size-2 returns-5)

@@ -58,17 +58,11 @@ enum-told c = search needs
 returns : tie.Need-returns Inv-loop μ-loop
 returns c = whole (c .before .before) _ (c .enum-told .given .1)
 
-enum-known-fault : tie.Need-enum-known-fault Inv-loop μ-loop
-enum-known-fault c = search needs
+enum-known-why : tie.Need-enum-known-why Inv-loop μ-loop
+enum-known-why c = search needs
 
 returns-2 : tie.Need-returns-2 Inv-loop μ-loop
-returns-2 c = whole (c .before .before .before) _ (c .before .fault .given .1)
-
-enum-told-2 : tie.Need-enum-told-2 Inv-loop μ-loop
-enum-told-2 c = search needs
-
-returns-3 : tie.Need-returns-3 Inv-loop μ-loop
-returns-3 c = whole (c .before .before) _ (c .enum-told2 .given .1)
+returns-2 c = whole (c .before .before .before) _ (c .before .why .given .1)
 
 enum-known-found : tie.Need-enum-known-found Inv-loop μ-loop
 enum-known-found c = search needs
@@ -124,10 +118,8 @@ check-body-spec =
     take-turn-requires
     enum-told
     returns
-    enum-known-fault
+    enum-known-why
     returns-2
-    enum-told-2
-    returns-3
     enum-known-found
     sub-name-of
     part-name-of-start

@@ -7,7 +7,8 @@ use Rattle.class.specs.Class.{classesOf}
 use Rattle.compare.specs.Order.{smaller}
 use Rattle.decode.specs.declared.reference.Record.{Record}
 use Rattle.decode.specs.declared.reference.Reading.the-variants.{Good}
-use Rattle.checks.specs.declared.Turn.the-variants.{On, Unsorted}
+use Rattle.checks.specs.declared.Turn.the-variants.{On, Refused}
+use Rattle.checks.specs.declared.Refusal.the-variants.{Unsorted}
 use Rattle.iter.proofs.ItemRead.{reads, told, named, named-is}
 use Rattle.checks.proofs.CheckTurns.{Spot, turnAt, Read, turn-end, turn-is}
 use borrow.Author.Needs.{needs}
@@ -41,8 +42,8 @@ module _ (q : tie.After-is-less) where
   order-is : smaller (there .last) (named is-record) ≡ q .is-less .result
   order-is = ap (smaller (there .last)) (sym (named-is is-record (q .before .name-of .ensures))) ∙ sym (q .is-less .ensures)
 
-  goes-by : (b : Bool) → q .is-less .result ≡ b → if b (On it) Unsorted ≡ turnAt there
-  goes-by b e = ap (λ o. if o (On it) Unsorted) (sym (order-is ∙ e)) ∙ sym (turn-is there (Good it) is-record)
+  goes-by : (b : Bool) → q .is-less .result ≡ b → if b (On it) (Refused (Unsorted (there .place))) ≡ turnAt there
+  goes-by b e = ap (λ o. if o (On it) (Refused (Unsorted (there .place)))) (sym (order-is ∙ e)) ∙ sym (turn-is there (Good it) is-record)
 
 returns : tie.Need-returns
 returns c = sym (turn-end (spot (c .before .before .before)) (c .if1 .taken))

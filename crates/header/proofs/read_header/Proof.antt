@@ -39,29 +39,10 @@ table-requires c κs = search needs
 open-requires : tie.Need-open-requires
 open-requires c κs = search needs
 
-enum-known-h : tie.Need-enum-known-h
-enum-known-h c = search needs
-
-enum-known-text : tie.Need-enum-known-text
-enum-known-text c = search needs
-
 returns-2 : tie.Need-returns-2
 unfolding headerAnswer
-returns-2 c = let o = c .before .before .before in rw (within o, is-opened o, c .before .h .given .1)
-
-returns-3 : tie.Need-returns-3
-unfolding headerAnswer
-returns-3 c = let o = c .before .before .before in rw (within o, is-opened o, c .before .text .given .1)
+returns-2 c = rw (within c, is-opened c)
 
 pub read-header-spec : {M : Type 1} → statement M
 read-header-spec =
-    tie.close
-    (tie.spec
-    over-limit-requires
-    returns
-    table-requires
-    open-requires
-    enum-known-h
-    enum-known-text
-    returns-2
-    returns-3)
+    tie.close (tie.spec over-limit-requires returns table-requires open-requires returns-2)

@@ -58,14 +58,8 @@ slice-aggregate-finish c = search needs
 finish-requires : tie.Need-finish-requires
 finish-requires c κs = search needs
 
-enum-known-text : tie.Need-enum-known-text
-enum-known-text c = search needs
-
-enum-known-place : tie.Need-enum-known-place
-enum-known-place c = search needs
-
-enum-known-place-2 : tie.Need-enum-known-place-2
-enum-known-place-2 c = search needs
+enum-known-why : tie.Need-enum-known-why
+enum-known-why c = search needs
 
 same-length : tie.Need-same-length
 same-length c = search needs
@@ -92,17 +86,7 @@ returns c =
 returns-2 : tie.Need-returns-2
 returns-2 c =
     let v = c .before .before .before .before in
-    (ap (judgedBy (olds v) (edits v) (room v)) (sym (verdict-is v ∙ c .before .text .given .1)), refl)
-
-returns-3 : tie.Need-returns-3
-returns-3 c =
-    let v = c .before .before .before .before in
-    (ap (judgedBy (olds v) (edits v) (room v)) (sym (verdict-is v ∙ c .before .place .given .1)), refl)
-
-returns-4 : tie.Need-returns-4
-returns-4 c =
-    let v = c .before .before .before .before in
-    (ap (judgedBy (olds v) (edits v) (room v)) (sym (verdict-is v ∙ c .before .place2 .given .1)), refl)
+    (ap (judgedBy (olds v) (edits v) (room v)) (sym (verdict-is v ∙ c .before .why .given .1)), refl)
 
 pub behind-header-spec : {M : Type 1} → statement M
 behind-header-spec =
@@ -114,11 +98,7 @@ behind-header-spec =
     enum-told
     slice-aggregate-finish
     finish-requires
-    enum-known-text
-    enum-known-place
-    enum-known-place-2
+    enum-known-why
     same-length
     returns
-    returns-2
-    returns-3
-    returns-4)
+    returns-2)

@@ -98,20 +98,14 @@ with-edits-requires c κs =
       rw (part r) (in-order-rising (list p) (placesOf (editsOf paper (n p) (list p))) (is .no-twin)),
     )
 
-enum-known-place : tie.Need-enum-known-place
-enum-known-place c = search needs
-
-enum-known-place-2 : tie.Need-enum-known-place-2
-enum-known-place-2 c = search needs
-
-enum-known-place-3 : tie.Need-enum-known-place-3
-enum-known-place-3 c = search needs
+enum-known-why : tie.Need-enum-known-why
+enum-known-why c = search needs
 
 enum-told : tie.Need-enum-told
 enum-told c = search needs
 
-enum-known-place-4 : tie.Need-enum-known-place-4
-enum-known-place-4 c = search needs
+enum-known-place : tie.Need-enum-known-place
+enum-known-place c = search needs
 
 enum-told-2 : tie.Need-enum-told-2
 enum-told-2 c = search needs
@@ -144,15 +138,15 @@ same-length-3 c = search needs
 returns-2 : tie.Need-returns-2
 returns-2 c =
     let p = c .before .before .before .before .before in
-    (sym (merge-by-list paper (n p) (old p) (list p) (length (index p)) (length (out p)) _ (said p ∙ c .before .place .given .1)), (index-after p, refl))
+    (sym (merge-by-list paper (n p) (old p) (list p) (length (index p)) (length (out p)) _ (said p ∙ c .before .why .given .1)), (index-after p, refl))
 
 same-length-4 : tie.Need-same-length-4
 same-length-4 c = search needs
 
 returns-3 : tie.Need-returns-3
 returns-3 c =
-    let p = c .before .before .before .before .before in
-    (sym (merge-by-list paper (n p) (old p) (list p) (length (index p)) (length (out p)) _ (said p ∙ c .before .place2 .given .1)), (index-after p, refl))
+    let p = c .before .before .before .before in
+    (sym (merge-by-list paper (n p) (old p) (list p) (length (index p)) (length (out p)) _ (said p ∙ c .enum-told .given .1)), (index-after p, refl))
 
 same-length-5 : tie.Need-same-length-5
 same-length-5 c = search needs
@@ -160,29 +154,13 @@ same-length-5 c = search needs
 returns-4 : tie.Need-returns-4
 returns-4 c =
     let p = c .before .before .before .before .before in
-    (sym (merge-by-list paper (n p) (old p) (list p) (length (index p)) (length (out p)) _ (said p ∙ c .before .place3 .given .1)), (index-after p, refl))
+    (sym (merge-by-list paper (n p) (old p) (list p) (length (index p)) (length (out p)) _ (said p ∙ c .before .place .given .1)), (index-after p, refl))
 
 same-length-6 : tie.Need-same-length-6
 same-length-6 c = search needs
 
 returns-5 : tie.Need-returns-5
 returns-5 c =
-    let p = c .before .before .before .before in
-    (sym (merge-by-list paper (n p) (old p) (list p) (length (index p)) (length (out p)) _ (said p ∙ c .enum-told .given .1)), (index-after p, refl))
-
-same-length-7 : tie.Need-same-length-7
-same-length-7 c = search needs
-
-returns-6 : tie.Need-returns-6
-returns-6 c =
-    let p = c .before .before .before .before .before in
-    (sym (merge-by-list paper (n p) (old p) (list p) (length (index p)) (length (out p)) _ (said p ∙ c .before .place4 .given .1)), (index-after p, refl))
-
-same-length-8 : tie.Need-same-length-8
-same-length-8 c = search needs
-
-returns-7 : tie.Need-returns-7
-returns-7 c =
     let p = c .before .before .before .before in
     (sym (merge-by-list paper (n p) (old p) (list p) (length (index p)) (length (out p)) _ (said p ∙ c .enum-told2 .given .1)), (index-after p, refl))
 
@@ -196,11 +174,9 @@ merge-by-spec =
     part-with-edits-start
     part-with-edits-end
     with-edits-requires
-    enum-known-place
-    enum-known-place-2
-    enum-known-place-3
+    enum-known-why
     enum-told
-    enum-known-place-4
+    enum-known-place
     enum-told-2
     same-length
     same-length-2
@@ -212,8 +188,4 @@ merge-by-spec =
     same-length-5
     returns-4
     same-length-6
-    returns-5
-    same-length-7
-    returns-6
-    same-length-8
-    returns-7)
+    returns-5)

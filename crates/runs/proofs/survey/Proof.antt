@@ -15,7 +15,7 @@ use Rattle.iter.proofs.ItemRead.{goes-on, named, named-is}
 use Rattle.checks.proofs.CheckTurns.{Spot, Turned, turned, judgedAfter, judged}
 use Rattle.put.specs.Put.{over}
 use Rattle.runs.specs.Runs.{Run, settles, marksOf}
-use Rattle.runs.proofs.RunTurns.{marked, marked-end, marked-bad, marked-unsorted, marked-on}
+use Rattle.runs.proofs.RunTurns.{marked, marked-end, marked-stop, marked-on}
 use borrow.Author.Needs.{needs}
 use Rattle.runs.proofs.survey.Statement.{statement}
 use Rattle.runs.proofs.survey.Tie as tie
@@ -104,8 +104,8 @@ returns c =
     let end = marked-end (s .byte) (s .n) (s .file) (list k) (index k) (s .place) (s .last) (l k .loop .j) (l k .loop .marks) (tells k _ (told .enum-told .given .1)) in
     (whole k _ (told .enum-told .given .1), e .settle-rest .ensures ∙ sym end ∙ l k .loop .inv .3)
 
-enum-known-fault : tie.Need-enum-known-fault Inv-loop μ-loop
-enum-known-fault c = search needs
+enum-known-why : tie.Need-enum-known-why Inv-loop μ-loop
+enum-known-why c = search needs
 
 same-length-2 : tie.Need-same-length-2 Inv-loop μ-loop
 same-length-2 c = search needs
@@ -113,23 +113,9 @@ same-length-2 c = search needs
 returns-2 : tie.Need-returns-2 Inv-loop μ-loop
 returns-2 c =
     let k = c .before .before .before in
-    let s = here k in
-    let stop = marked-bad (s .byte) (s .n) (s .file) (list k) (index k) (s .place) (s .last) (l k .loop .j) (l k .loop .marks) (tells k _ (c .before .fault .given .1)) in
-    (whole k _ (c .before .fault .given .1), sym stop ∙ l k .loop .inv .3)
-
-enum-told-2 : tie.Need-enum-told-2 Inv-loop μ-loop
-enum-told-2 c = search needs
-
-same-length-3 : tie.Need-same-length-3 Inv-loop μ-loop
-same-length-3 c = search needs
-
-returns-3 : tie.Need-returns-3 Inv-loop μ-loop
-returns-3 c =
-    let k = c .before .before in
-    let s = here k in
-    let t = tells k _ (c .enum-told2 .given .1) in
-    let stop = marked-unsorted (s .byte) (s .n) (s .file) (list k) (index k) (s .place) (s .last) (l k .loop .j) (l k .loop .marks) (t .1) (t .2) in
-    (whole k _ (c .enum-told2 .given .1), sym stop ∙ l k .loop .inv .3)
+    let told = c .before .why .given .1 in
+    let stop = marked-stop (here k) (list k) (index k) (l k .loop .j) (l k .loop .marks) (c .before .why .given .0 .0) (tells k _ told) in
+    (whole k _ told, sym stop ∙ l k .loop .inv .3)
 
 enum-known-found : tie.Need-enum-known-found Inv-loop μ-loop
 enum-known-found c = search needs
@@ -196,12 +182,9 @@ survey-spec =
     settle-rest-requires
     same-length
     returns
-    enum-known-fault
+    enum-known-why
     same-length-2
     returns-2
-    enum-told-2
-    same-length-3
-    returns-3
     enum-known-found
     sub-name-of
     part-name-of-start

@@ -1,7 +1,7 @@
 //! Edits as lines of text.
 use crate::input::Input;
 use crate::Trouble;
-use packed_refs::{Edits, Error, IdKind};
+use packed_refs::{Edits, Error, IdKind, Reason};
 
 /// The edits, and on which line each of them stands.
 pub struct EditLines {
@@ -48,9 +48,9 @@ pub fn read(kind: IdKind, input: &Input) -> Result<EditLines, Trouble> {
 }
 
 fn why(kind: IdKind, error: &Error) -> String {
-    match error.number() {
-        7 => format!("number 7: an id is not {} hex digits", kind.digits()),
-        8 => "number 8: the name is over 4,096 bytes or breaks the name rules".to_string(),
+    match error.reason() {
+        Reason::MalformedEdits => format!("number 7: an id is not {} hex digits", kind.digits()),
+        Reason::BadEditName => "number 8: the name is over 4,096 bytes or breaks the name rules".to_string(),
         _ => error.to_string(),
     }
 }

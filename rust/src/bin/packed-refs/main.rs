@@ -150,9 +150,9 @@ fn usage(words: &str) -> Ended {
 
 /// A refusal of the library about a file: which file, which line, which number, what to do.
 fn refusal(input: &Input, about: &str, error: &Error) -> String {
-    match (error.number(), error.place()) {
-        (2 | 4 | 6, Some(place)) => format!("{}, line {}: {about}{error}", input.name, input.line(place)),
-        _ => format!("{}: {about}{error}", input.name),
+    match error.place_in_file() {
+        Some(place) => format!("{}, line {}: {about}{error}", input.name, input.line(place)),
+        None => format!("{}: {about}{error}", input.name),
     }
 }
 
@@ -311,9 +311,9 @@ fn merge_files(kind: IdKind, old: &OsStr, edits: &OsStr, new: Option<&OsStr>, ou
             }
             Ok(Status::Done)
         }
-        Err(error) => Err(Trouble::Refused(match (error.number(), error.place()) {
-            (7 | 8 | 9 | 11, Some(place)) => format!("{}, line {}: {error}", lines.name, edits.line(place)),
-            _ => refusal(&input, "", &error),
+        Err(error) => Err(Trouble::Refused(match error.place_in_edits() {
+            Some(place) => format!("{}, line {}: {error}", lines.name, edits.line(place)),
+            None => refusal(&input, "", &error),
         })),
     }
 }

@@ -2,7 +2,7 @@
 use crate::input::{line_feeds, Input};
 use crate::progress::Progress;
 use crate::{Ended, Out, Status, Trouble};
-use packed_refs::{Damage, Escaped, IdKind, Items, Record, Table};
+use packed_refs::{Damage, Escaped, IdKind, Items, Reason, Record, Table};
 use std::io::{self, Write};
 
 /// More of a damaged line is not shown.
@@ -37,7 +37,7 @@ fn rest_of(text: &[u8]) -> String {
 pub fn all_items(kind: IdKind, bytes: &[u8]) -> Result<Items<'_>, Trouble> {
     let table = Table::new(kind, bytes);
     let items = match table.items() {
-        Err(error) if error.number() == 2 => table.items_from(behind_first_line(bytes), 2),
+        Err(error) if error.reason() == Reason::NoHeader => table.items_from(behind_first_line(bytes), 2),
         other => other,
     };
     items.map_err(|error| Trouble::Refused(error.to_string()))

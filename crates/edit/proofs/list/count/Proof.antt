@@ -12,7 +12,7 @@ use Rattle.edit.specs.declared.list.Edits.the-variants.{Count}
 use Rattle.change.specs.Change.{changeOf}
 use Rattle.edit.specs.List.{Listed, editsFrom, editsOf, told}
 use Rattle.change.proofs.Parts.{edit-goes-on}
-use Rattle.edit.proofs.Lists.{from-end, from-many, from-malformed, from-bad-name, from-good, told-onto}
+use Rattle.edit.proofs.Lists.{from-end, from-many, from-bad, from-good, told-onto}
 use borrow.Author.Needs.{needs}
 use Rattle.edit.proofs.list.count.Statement.{statement}
 use Rattle.edit.proofs.list.count.Tie as tie
@@ -124,26 +124,18 @@ loop-again c =
     let on = told-onto (count l) (place l) (editsFrom (byte l) (n l) (list l) (turns k) (place l + it g .size)) in
     (search needs, sym on ∙ decides l (fewer k ∙ from-good (byte l) (n l) (list l) (place l) (inside k) (turns k) (it g) (is-edit g)))
 
-enum-told : tie.Need-enum-told Inv-loop μ-loop
-enum-told c = search needs
+enum-known-fault : tie.Need-enum-known-fault Inv-loop μ-loop
+enum-known-fault c = search needs
 
 returns-2 : tie.Need-returns-2 Inv-loop μ-loop
 returns-2 c =
-    let k = c .before .before in
+    let f = c .before in
+    let k = f .before .before in
     let l = turn k in
-    decides l (fewer k ∙ from-malformed (byte l) (n l) (list l) (place l) (inside k) (turns k) (is-read k ∙ c .enum-told .given .1))
-
-enum-told-2 : tie.Need-enum-told-2 Inv-loop μ-loop
-enum-told-2 c = search needs
+    decides l (fewer k ∙ from-bad (byte l) (n l) (list l) (place l) (inside k) (turns k) (is-read k ∙ f .fault .given .1))
 
 returns-3 : tie.Need-returns-3 Inv-loop μ-loop
 returns-3 c =
-    let k = c .before .before in
-    let l = turn k in
-    decides l (fewer k ∙ from-bad-name (byte l) (n l) (list l) (place l) (inside k) (turns k) (is-read k ∙ c .enum-told2 .given .1))
-
-returns-4 : tie.Need-returns-4 Inv-loop μ-loop
-returns-4 c =
     let l = c .before in
     let z : count l ≡ count l + 0 = omega arith in
     ap Count z ∙ decides l (from-end (byte l) (n l) (list l) (place l) (4096 - count l) (c .loop-test .left))
@@ -165,8 +157,6 @@ count-spec =
     add-count
     loop-less
     loop-again
-    enum-told
+    enum-known-fault
     returns-2
-    enum-told-2
-    returns-3
-    returns-4)
+    returns-3)

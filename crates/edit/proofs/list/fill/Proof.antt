@@ -10,7 +10,7 @@ use Rattle.change.specs.declared.Change.{Change}
 use Rattle.change.specs.declared.Reading.the-variants.{Good}
 use Rattle.change.specs.Change.{changeOf}
 use Rattle.change.proofs.Parts.{edit-goes-on}
-use Rattle.edit.proofs.Filling.{Filling, filling-first, filling-end, no-malformed, no-bad-name, room-here, filling-next}
+use Rattle.edit.proofs.Filling.{Filling, filling-first, filling-end, no-bad, room-here, filling-next}
 use borrow.Author.Needs.{needs}
 use Rattle.edit.proofs.list.fill.Statement.{statement}
 use Rattle.edit.proofs.list.fill.Tie as tie
@@ -125,25 +125,13 @@ returns : tie.Need-returns Inv-loop μ-loop
 returns c =
     let k = c .before .before in
     let l = turn k in
-    absurd (no-malformed (byte l) (n l) (list l) (first l) (l .loop .index) (place l) (l .loop .i) (l .loop .inv .2) (inside k) (is-read k ∙ c .enum-told .given .1))
-
-enum-told-2 : tie.Need-enum-told-2 Inv-loop μ-loop
-enum-told-2 c = search needs
+    absurd (no-bad (byte l) (n l) (list l) (first l) (l .loop .index) (place l) (l .loop .i) (l .loop .inv .2) (inside k) (is-read k ∙ c .enum-told .given .1))
 
 same-length-2 : tie.Need-same-length-2 Inv-loop μ-loop
-same-length-2 c = turn (c .before .before) .loop .inv .0
+same-length-2 c = c .before .loop .inv .0
 
 returns-2 : tie.Need-returns-2 Inv-loop μ-loop
 returns-2 c =
-    let k = c .before .before in
-    let l = turn k in
-    absurd (no-bad-name (byte l) (n l) (list l) (first l) (l .loop .index) (place l) (l .loop .i) (l .loop .inv .2) (inside k) (is-read k ∙ c .enum-told2 .given .1))
-
-same-length-3 : tie.Need-same-length-3 Inv-loop μ-loop
-same-length-3 c = c .before .loop .inv .0
-
-returns-3 : tie.Need-returns-3 Inv-loop μ-loop
-returns-3 c =
     let l = c .before in
     filling-end (byte l) (n l) (list l) (first l) (l .loop .index) (place l) (l .loop .i) (l .loop .inv .2) (c .loop-test .left)
 
@@ -169,8 +157,5 @@ fill-spec =
     enum-told
     same-length
     returns
-    enum-told-2
     same-length-2
-    returns-2
-    same-length-3
-    returns-3)
+    returns-2)

@@ -11,7 +11,7 @@ use Rattle.parse.specs.Limit.{overLimit}
 use Rattle.edit.specs.declared.list.Edits.the-variants.{Count}
 use Rattle.edit.specs.List.{editsOf, told, placesOf, inOrder, twinsOf}
 use Rattle.edit.proofs.Ordering.{length-order, front, behind, as-long}
-use Rattle.edit.proofs.Outcomes.{told-count, comes-large, comes-malformed, comes-bad-name, comes-many, comes-short, comes-ready}
+use Rattle.edit.proofs.Outcomes.{told-count, comes-large, comes-bad, comes-short, comes-ready}
 use borrow.Author.Needs.{needs}
 use Rattle.edit.proofs.list.prepare.Statement.{statement}
 use Rattle.edit.proofs.list.prepare.Tie as tie
@@ -93,14 +93,8 @@ returns c =
 count-requires : tie.Need-count-requires
 count-requires c κs = search needs
 
-enum-known-place : tie.Need-enum-known-place
-enum-known-place c = search needs
-
-enum-known-place-2 : tie.Need-enum-known-place-2
-enum-known-place-2 c = search needs
-
-enum-known-place-3 : tie.Need-enum-known-place-3
-enum-known-place-3 c = search needs
+enum-known-why : tie.Need-enum-known-why
+enum-known-why c = search needs
 
 enum-known-k : tie.Need-enum-known-k
 enum-known-k c = search needs
@@ -127,21 +121,7 @@ returns-3 c =
     let p = c .before in
     let m = p .before .before in
     let b = start m in
-    comes-malformed (byte b) (n b) (list b) (index b) (within m) (p .place .given .0 .0) (sym (m .count .ensures) ∙ p .place .given .1)
-
-returns-4 : tie.Need-returns-4
-returns-4 c =
-    let p = c .before in
-    let m = p .before .before in
-    let b = start m in
-    comes-bad-name (byte b) (n b) (list b) (index b) (within m) (p .place2 .given .0 .0) (sym (m .count .ensures) ∙ p .place2 .given .1)
-
-returns-5 : tie.Need-returns-5
-returns-5 c =
-    let p = c .before in
-    let m = p .before .before in
-    let b = start m in
-    comes-many (byte b) (n b) (list b) (index b) (within m) (p .place3 .given .0 .0) (sym (m .count .ensures) ∙ p .place3 .given .1)
+    comes-bad (byte b) (n b) (list b) (index b) (within m) (p .why .given .0 .0) (sym (m .count .ensures) ∙ p .why .given .1)
 
 same-length : tie.Need-same-length
 same-length c =
@@ -151,8 +131,8 @@ same-length c =
     let fits : j f ≤ length (filled f) = omega (arith, long f, room f) in
     omega (arith, ap length (o .put-in-order .ensures .1), length-append (inOrder here (take (j f) (filled f))) (drop (j f) (filled f)), length-order here (filled f) (j f) fits, length-drop (j f) (filled f), long f)
 
-returns-6 : tie.Need-returns-6
-returns-6 c =
+returns-4 : tie.Need-returns-4
+returns-4 c =
     let o = c .before .before in
     let f = o .before .before .before .before in
     let k = of-number f in
@@ -172,15 +152,11 @@ prepare-spec =
     over-limit-requires
     returns
     count-requires
-    enum-known-place
-    enum-known-place-2
-    enum-known-place-3
+    enum-known-why
     enum-known-k
     returns-2
     fill-requires
     put-in-order-requires
     returns-3
-    returns-4
-    returns-5
     same-length
-    returns-6)
+    returns-4)

@@ -5,6 +5,7 @@ use Prim.Native.Nat.{ℕ}
 use Rattle.decode.specs.declared.reference.Record.{Record}
 use Rattle.ask.specs.declared.Told.the-variants.{Charted}
 use Rattle.reply.specs.Told.{Near}
+use Rattle.reply.specs.Seek.{askRefused}
 use borrow.Author.Needs.{needs}
 use Rattle.reply.proofs.seek.ask_told.Statement.{statement}
 use Rattle.reply.proofs.seek.ask_told.Tie as tie
@@ -41,35 +42,23 @@ ask-bare-requires-2 c κs = search needs
 enum-known-said-2 : tie.Need-enum-known-said-2
 enum-known-said-2 c = search needs
 
+refusal-requires : tie.Need-refusal-requires
+refusal-requires c κs = search needs
+
 ask-bare-requires-3 : tie.Need-ask-bare-requires-3
 ask-bare-requires-3 c κs = search needs
-
-enum-known-said-3 : tie.Need-enum-known-said-3
-enum-known-said-3 c = search needs
-
-fault-number-requires : tie.Need-fault-number-requires
-fault-number-requires c κs = search needs
-
-ask-bare-requires-4 : tie.Need-ask-bare-requires-4
-ask-bare-requires-4 c κs = search needs
-
-enum-known-said-4 : tie.Need-enum-known-said-4
-enum-known-said-4 c = search needs
-
-ask-bare-requires-5 : tie.Need-ask-bare-requires-5
-ask-bare-requires-5 c κs = search needs
 
 enum-told-3 : tie.Need-enum-told-3
 enum-told-3 c = search needs
 
-ask-bare-requires-6 : tie.Need-ask-bare-requires-6
-ask-bare-requires-6 c κs = search needs
+ask-bare-requires-4 : tie.Need-ask-bare-requires-4
+ask-bare-requires-4 c κs = search needs
 
 enum-told-4 : tie.Need-enum-told-4
 enum-told-4 c = search needs
 
-ask-bare-requires-7 : tie.Need-ask-bare-requires-7
-ask-bare-requires-7 c κs = search needs
+ask-bare-requires-5 : tie.Need-ask-bare-requires-5
+ask-bare-requires-5 c κs = search needs
 
 returns : tie.Need-returns
 returns c = rw (c .before .before .before .before .before .before .answer .given .1, c .before .before .before .said .given .1, c .before .name-at .ensures, c .peeled-at .ensures)
@@ -81,19 +70,15 @@ returns-3 : tie.Need-returns-3
 returns-3 c = rw (c .before .before .before .before .answer .given .1, c .before .enum-told2 .given .1) (c .ask-bare2 .ensures)
 
 returns-4 : tie.Need-returns-4
-returns-4 c = rw (c .before .before .before .before .before .answer .given .1, c .before .before .said2 .given .1) (c .ask-bare3 .ensures)
+returns-4 c =
+    let s = c .before .before .before in
+    rw (s .before .before .before .answer .given .1, s .said2 .given .1) (c .ask-bare3 .ensures ∙ ap askRefused (c .before .refusal .ensures))
 
 returns-5 : tie.Need-returns-5
-returns-5 c = rw (c .before .before .before .before .before .before .answer .given .1, c .before .before .before .said3 .given .1, ← c .before .fault-number .ensures) (c .ask-bare4 .ensures)
+returns-5 c = rw (c .before .enum-told3 .given .1) (c .ask-bare4 .ensures)
 
 returns-6 : tie.Need-returns-6
-returns-6 c = rw (c .before .before .before .before .before .answer .given .1, c .before .before .said4 .given .1) (c .ask-bare5 .ensures)
-
-returns-7 : tie.Need-returns-7
-returns-7 c = rw (c .before .enum-told3 .given .1) (c .ask-bare6 .ensures)
-
-returns-8 : tie.Need-returns-8
-returns-8 c = rw (c .before .enum-told4 .given .1) (c .ask-bare7 .ensures)
+returns-6 c = rw (c .before .enum-told4 .given .1) (c .ask-bare5 .ensures)
 
 pub ask-told-spec : {M : Type 1} → statement M
 ask-told-spec =
@@ -108,21 +93,15 @@ ask-told-spec =
     enum-told-2
     ask-bare-requires-2
     enum-known-said-2
+    refusal-requires
     ask-bare-requires-3
-    enum-known-said-3
-    fault-number-requires
-    ask-bare-requires-4
-    enum-known-said-4
-    ask-bare-requires-5
     enum-told-3
-    ask-bare-requires-6
+    ask-bare-requires-4
     enum-told-4
-    ask-bare-requires-7
+    ask-bare-requires-5
     returns
     returns-2
     returns-3
     returns-4
     returns-5
-    returns-6
-    returns-7
-    returns-8)
+    returns-6)

@@ -1,4 +1,6 @@
 -- `reply::walk::check_told` meets its contract.
+use mathlib.Core.Path.{ap, _∙_}
+use Rattle.reply.specs.Walk.{checkRefused}
 use borrow.Author.Needs.{needs}
 use Rattle.reply.proofs.walk.check_told.Statement.{statement}
 use Rattle.reply.proofs.walk.check_told.Tie as tie
@@ -15,53 +17,37 @@ check-gives-requires c κs = search needs
 enum-known-verdict-2 : tie.Need-enum-known-verdict-2
 enum-known-verdict-2 c = search needs
 
+refusal-requires : tie.Need-refusal-requires
+refusal-requires c κs = search needs
+
 check-gives-requires-2 : tie.Need-check-gives-requires-2
 check-gives-requires-2 c κs = search needs
-
-enum-known-verdict-3 : tie.Need-enum-known-verdict-3
-enum-known-verdict-3 c = search needs
-
-fault-number-requires : tie.Need-fault-number-requires
-fault-number-requires c κs = search needs
-
-check-gives-requires-3 : tie.Need-check-gives-requires-3
-check-gives-requires-3 c κs = search needs
-
-enum-known-verdict-4 : tie.Need-enum-known-verdict-4
-enum-known-verdict-4 c = search needs
-
-check-gives-requires-4 : tie.Need-check-gives-requires-4
-check-gives-requires-4 c κs = search needs
 
 enum-told : tie.Need-enum-told
 enum-told c = search needs
 
-check-gives-requires-5 : tie.Need-check-gives-requires-5
-check-gives-requires-5 c κs = search needs
+check-gives-requires-3 : tie.Need-check-gives-requires-3
+check-gives-requires-3 c κs = search needs
 
 enum-told-2 : tie.Need-enum-told-2
 enum-told-2 c = search needs
 
-check-gives-requires-6 : tie.Need-check-gives-requires-6
-check-gives-requires-6 c κs = search needs
+check-gives-requires-4 : tie.Need-check-gives-requires-4
+check-gives-requires-4 c κs = search needs
 
 returns : tie.Need-returns
 returns c = rw (c .before .before .before .before .before .answer .given .1, c .before .before .verdict .given .1) (c .check-gives .ensures)
 
 returns-2 : tie.Need-returns-2
-returns-2 c = rw (c .before .before .before .before .before .answer .given .1, c .before .before .verdict2 .given .1) (c .check-gives2 .ensures)
+returns-2 c =
+    let v = c .before .before .before in
+    rw (v .before .before .before .answer .given .1, v .verdict2 .given .1) (c .check-gives2 .ensures ∙ ap checkRefused (c .before .refusal .ensures))
 
 returns-3 : tie.Need-returns-3
-returns-3 c = rw (c .before .before .before .before .before .before .answer .given .1, c .before .before .before .verdict3 .given .1, ← c .before .fault-number .ensures) (c .check-gives3 .ensures)
+returns-3 c = rw (c .before .enum-told .given .1) (c .check-gives3 .ensures)
 
 returns-4 : tie.Need-returns-4
-returns-4 c = rw (c .before .before .before .before .before .answer .given .1, c .before .before .verdict4 .given .1) (c .check-gives4 .ensures)
-
-returns-5 : tie.Need-returns-5
-returns-5 c = rw (c .before .enum-told .given .1) (c .check-gives5 .ensures)
-
-returns-6 : tie.Need-returns-6
-returns-6 c = rw (c .before .enum-told2 .given .1) (c .check-gives6 .ensures)
+returns-4 c = rw (c .before .enum-told2 .given .1) (c .check-gives4 .ensures)
 
 pub check-told-spec : {M : Type 1} → statement M
 check-told-spec =
@@ -71,19 +57,13 @@ check-told-spec =
     enum-known-verdict
     check-gives-requires
     enum-known-verdict-2
+    refusal-requires
     check-gives-requires-2
-    enum-known-verdict-3
-    fault-number-requires
-    check-gives-requires-3
-    enum-known-verdict-4
-    check-gives-requires-4
     enum-told
-    check-gives-requires-5
+    check-gives-requires-3
     enum-told-2
-    check-gives-requires-6
+    check-gives-requires-4
     returns
     returns-2
     returns-3
-    returns-4
-    returns-5
-    returns-6)
+    returns-4)

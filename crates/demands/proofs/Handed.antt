@@ -1,0 +1,162 @@
+-- What is handed out of a body, and its items: each stands for the other.
+use mathlib.Core.Path.{_≡_, refl, sym, ap, _∙_}
+use mathlib.Core.Bool.{Bool, true, false, and-eq-true-iff}
+use mathlib.Core.List.{List, [], _∷_, _++_}
+use Prim.Native.Nat.{ℕ, zero, suc, _+_, _<_}
+use native.Mathlib.Nat.{add-zero}
+use native.Mathlib.Omega.{arith}
+use lib.ListN.{length, take, drop, length-append}
+use lib.Seq.{length-take-le}
+use Rattle.parse.specs.Choice.{if}
+use Rattle.class.specs.Class.{paper}
+use Rattle.compare.specs.Prefix.{begins}
+use Rattle.decode.specs.declared.reference.Fault.{Fault}
+use Rattle.decode.specs.declared.reference.Record.{Record}
+use Rattle.decode.specs.declared.reference.Reading.{Reading}
+use Rattle.decode.specs.declared.reference.Reading.the-variants.{Good, Bad}
+use Rattle.decode.specs.Record.{recordOf}
+use Rattle.decode.proofs.Records.{fits}
+use Rattle.iter.specs.Items.{Item, itemOf, items, bytesOf, nameOf}
+use Rattle.iter.specs.Stands.{Stands, Named}
+use Rattle.iter.specs.Step.{more}
+use Rattle.iter.proofs.Each.{each}
+use Rattle.iter.proofs.Items.{size-good}
+use Rattle.handed.specs.Handed.{Handed, Given, given, partsBy, partsOf, handedBy, handedAt, handed, whats}
+use Rattle.handed.proofs.Runs.{parts-inside}
+use Rattle.checks.specs.Passes.{isGood, allGood}
+use Rattle.find.specs.Present.{withPrefix}
+use Rattle.demands.specs.Found.{In, Has, wantedBy, wanted}
+
+module _ (n : ℕ) where
+  -- an item that is handed out, among some that begin at a place
+  pub record FromItem (at : ℕ) (l : List Item) (g : Given) : Type 0 where
+    pub before : List Item
+    pub it : Item
+    pub after : List Item
+    pub number : ℕ
+    pub all : l ≡ before ++ it ∷ after
+    pub is : g ≡ handedAt n (at + length (bytesOf before)) number it
+
+  pub from-item : (l : List Item) (at number : ℕ) (before : List Given) (g : Given) (after : List Given) → handed n at number l ≡ before ++ g ∷ after → FromItem at l g
+  from-item [] at number [] g after e = absurd (let z : _≡_ {A = ℕ} 0 1 = cc in omega arith)
+  from-item [] at number (b ∷ before) g after e = absurd (let z : _≡_ {A = ℕ} 0 1 = cc in omega arith)
+  from-item (i ∷ l) at number [] g after e =
+      let z : g ≡ handedAt n at number i = cc in
+      record { before = []; it = i; after = l; number = number; all = refl; is = rw (add-zero at) z }
+  from-item (i ∷ l) at number (b ∷ before) g after e =
+      let rest : handed n (at + length (i .bytes)) (more number) l ≡ before ++ g ∷ after = cc in
+      let x = from-item l (at + length (i .bytes)) (more number) before g after rest in
+      let z : at + length (i .bytes) + length (bytesOf (x .before)) ≡ at + length (i .bytes ++ bytesOf (x .before)) = omega (arith, length-append (i .bytes) (bytesOf (x .before))) in
+      record {
+        before = i ∷ x .before;
+        it = x .it;
+        after = x .after;
+        number = x .number;
+        all = ap (λ (m : List Item). i ∷ m) (x .all);
+        is = rw z at (x .is);
+      }
+
+  pub to-given : (before : List Item) (it : Item) (after : List Item) (at number : ℕ)
+      → (k : ℕ) × In (handedAt n (at + length (bytesOf before)) k it) (handed n at number (before ++ it ∷ after))
+  to-given [] it after at number = (number, record { before = []; after = handed n (at + length (it .bytes)) (more number) after; all = rw (add-zero at) })
+  to-given (i ∷ before) it after at number =
+      let (k, x) = to-given before it after (at + length (i .bytes)) (more number) in
+      let z : at + length (i .bytes) + length (bytesOf before) ≡ at + length (i .bytes ++ bytesOf before) = omega (arith, length-append (i .bytes) (bytesOf before)) in
+      let y : In (handedAt n (at + length (i .bytes) + length (bytesOf before)) k it) (handed n at number (i ∷ (before ++ it ∷ after))) =
+      record { before = handedAt n at number i ∷ x .before; after = x .after; all = ap (λ (l : List Given). handedAt n at number i ∷ l) (x .all) } in
+      (k, rw z at y)
+
+  -- ---- a record that stands in a body is handed out by its places
+
+  module _ (s : List ℕ) where
+    stands-as : {place : ℕ} {it : Item} {r : Record} → Stands paper n s place it → it .what ≡ Good r
+        → (length (it .bytes) ≡ r .size) × (partsOf n (it .bytes) r ≡ partsOf n (drop place s) r)
+    stands-as {place} {it} {r} x reads =
+        let t = drop place s in
+        let e : it ≡ itemOf paper n t = each n s place it x .read in
+        let q : recordOf paper n t ≡ Good r = sym (ap (λ (j : Item). j .what) e) ∙ reads in
+        let b : it .bytes ≡ take (r .size) t = ap (λ (j : Item). j .bytes) e ∙ ap (λ (k : ℕ). take k t) (size-good paper n t r q) in
+        (ap length b ∙ length-take-le (r .size) t (fits paper n t r q .inside), ap (λ (y : List ℕ). partsOf n y r) b ∙ parts-inside paper n t r q)
+
+    -- its name
+    has-name : (wanted : List ℕ) (bytes : List ℕ) (r : Record) → Has wanted (partsOf n bytes r) → nameOf n (record { what = Good r; bytes = bytes }) ≡ wanted
+    has-name wanted bytes r h = go (r .object) h
+      where
+        go : (o : ℕ) → Has wanted (partsBy n bytes (take (r .name) (drop (n + 1) bytes)) o) → take (r .name) (drop (n + 1) bytes) ≡ wanted
+        go zero h = h
+        go (suc o) h = h
+
+    name-has : (wanted : List ℕ) (bytes : List ℕ) (r : Record) → nameOf n (record { what = Good r; bytes = bytes }) ≡ wanted → Has wanted (partsOf n bytes r)
+    name-has wanted bytes r h = go (r .object)
+      where
+        go : (o : ℕ) → Has wanted (partsBy n bytes (take (r .name) (drop (n + 1) bytes)) o)
+        go zero = h
+        go (suc o) = h
+
+    -- the record at a place of the body, where the body begins at a place
+    abbrev pub told : ℕ → ℕ → Record → Given
+    told at place r = given (at + place) (at + place + r .size) (partsOf n (drop place s) r)
+
+    pub record Stood (at : ℕ) (wanted : List ℕ) (g : Given) : Type 0 where
+      pub place : ℕ
+      pub r : Record
+      pub named : Named n s wanted place r
+      pub is : told at place r ≡ g
+
+    pub stood : (at number : ℕ) (wanted : List ℕ) (g : Given) → In g (handed n at number (items paper n s)) → Has wanted (g .what) → Stood at wanted g
+    stood at number wanted g x h =
+        let y = from-item (items paper n s) at number (x .before) g (x .after) (x .all) in
+        let place = length (bytesOf (y .before)) in
+        let stands : Stands paper n s place (y .it) = record { before = y .before; after = y .after; all = y .all; here = refl } in
+        let k : Has wanted (handedBy n (y .number) (y .it .bytes) (y .it .what)) = rw (y .is) at h in
+        go (y .it .what) y refl stands k
+      where
+        go : (w : Reading) (y : FromItem at (items paper n s) g) → y .it .what ≡ w → Stands paper n s (length (bytesOf (y .before))) (y .it)
+            → Has wanted (handedBy n (y .number) (y .it .bytes) w) → Stood at wanted g
+        go (Bad f) y e stands k = absurd k
+        go (Good r) y e stands k =
+            let (long, parts) = stands-as stands e in
+            record {
+              place = length (bytesOf (y .before));
+              r = r;
+              named = record { it = y .it; stands = stands; good = e; name-is = rw e (has-name wanted (y .it .bytes) r k) };
+              is = rw (y .is, e, long, parts);
+            }
+
+    pub stands-in : (at number : ℕ) (wanted : List ℕ) (place : ℕ) (r : Record) → Named n s wanted place r
+        → In (told at place r) (handed n at number (items paper n s)) × Has wanted (told at place r .what)
+    stands-in at number wanted place r x =
+        let st = x .stands in
+        let (long, parts) = stands-as st (x .good) in
+        let (k, inside) = to-given (st .before) (x .it) (st .after) at number in
+        let e : handedAt n (at + length (bytesOf (st .before))) k (x .it) ≡ told at place r = rw (st .here, x .good, long, parts) in
+        (rw e at (rw (sym (st .all)) at inside), rw parts at (name-has wanted (x .it .bytes) r (rw (x .good) at (x .name-is))))
+
+  -- ---- among records, those with a prefix
+
+  pub wanted-is : (prefix : List ℕ) (l : List Item) (at number at′ number′ : ℕ) → allGood l ≡ true
+      → whats (handed n at number (withPrefix n prefix l)) ≡ wanted prefix (whats (handed n at′ number′ l))
+  wanted-is prefix [] at number at′ number′ g = refl
+  wanted-is prefix (i ∷ l) at number at′ number′ g =
+      let both = and-eq-true-iff (isGood (i .what)) (allGood l) .0 g in
+      go (i .what) refl (both .0) (begins prefix (nameOf n i)) refl
+      (λ p k. wanted-is prefix l p k (at′ + length (i .bytes)) (more number′) (both .1))
+    where
+      others : List Handed
+      others = wanted prefix (whats (handed n (at′ + length (i .bytes)) (more number′) l))
+
+      parts : (bytes name : List ℕ) (o : ℕ) (b : Bool) → begins prefix name ≡ b
+          → wantedBy prefix (partsBy n bytes name o) others ≡ if b (partsBy n bytes name o ∷ others) others
+      parts bytes name zero b e = rw e
+      parts bytes name (suc o) b e = rw e
+
+      go : (w : Reading) → i .what ≡ w → isGood w ≡ true → (b : Bool) → begins prefix (nameOf n i) ≡ b
+          → ((p k : ℕ) → whats (handed n p k (withPrefix n prefix l)) ≡ others)
+          → whats (handed n at number (if b (i ∷ withPrefix n prefix l) (withPrefix n prefix l)))
+          ≡ wantedBy prefix (handedBy n number′ (i .bytes) (i .what)) others
+      go (Bad f) e h b q ih = absurd (let z : _≡_ {A = ℕ} 0 1 = cc in omega arith)
+      go (Good r) e h true q ih =
+          rw e
+          (ap (λ (m : List Handed). partsOf n (i .bytes) r ∷ m) (ih (at + length (i .bytes)) (more number))
+          ∙ sym (parts (i .bytes) (take (r .name) (drop (n + 1) (i .bytes))) (r .object) true (rw e at q)))
+      go (Good r) e h false q ih = rw e (ih at number ∙ sym (parts (i .bytes) (take (r .name) (drop (n + 1) (i .bytes))) (r .object) false (rw e at q)))

@@ -1,0 +1,4 @@
+pub mod Demands
+pub mod Found
+pub mod Handed
+pub mod Refused

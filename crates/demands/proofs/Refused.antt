@@ -1,0 +1,266 @@
+-- Demand 1: every call is answered or refused with one of document 01's numbers, and what a refused merge leaves of the lent memory.
+use mathlib.Core.Path.{_≡_, refl, sym, ap, _∙_}
+use mathlib.Core.Bool.{Bool, true, false}
+use mathlib.Core.List.{List, [], _∷_, _++_}
+use Prim.Native.Nat.{ℕ}
+use native.Mathlib.Omega.{arith}
+use lib.Dec.{ltb}
+use lib.ListN.{length, drop}
+use Rattle.parse.specs.Choice.{if}
+use Rattle.parse.specs.declared.limit.Admission.{Admission}
+use Rattle.parse.specs.declared.limit.Admission.the-variants as admitted
+use Rattle.parse.specs.Limit.{overLimit, admission}
+use Rattle.class.specs.Class.{paper}
+use Rattle.decode.specs.declared.reference.Fault.{Fault}
+use Rattle.decode.specs.declared.reference.Fault.the-variants.{Id, Space, LineEnd, Name, Peeled}
+use Rattle.decode.specs.Record.{faultNumber}
+use Rattle.header.specs.declared.Opened.the-variants as opened
+use Rattle.header.specs.declared.HeaderAnswer.{HeaderAnswer}
+use Rattle.header.specs.declared.HeaderAnswer.the-variants as headed
+use Rattle.header.specs.Header.{headerAnswer, headerNumber}
+use Rattle.start.specs.declared.Start.the-variants as start
+use Rattle.start.specs.declared.StartAnswer.{StartAnswer}
+use Rattle.start.specs.declared.StartAnswer.the-variants as started
+use Rattle.start.specs.Start.{startAnswer, startNumber}
+use Rattle.iter.specs.declared.step.StepAnswer.{StepAnswer}
+use Rattle.iter.specs.declared.step.StepAnswer.the-variants as stepped
+use Rattle.iter.specs.Step.{stepAnswer, stepNumber}
+use Rattle.checks.specs.declared.Refusal.{Refusal}
+use Rattle.checks.specs.declared.Refusal.the-variants as refusal
+use Rattle.checks.specs.declared.Verdict.{Verdict}
+use Rattle.checks.specs.declared.Verdict.the-variants as verdict
+use Rattle.checks.specs.declared.CheckAnswer.{CheckAnswer}
+use Rattle.checks.specs.declared.CheckAnswer.the-variants as checked
+use Rattle.checks.specs.Check.{checkOf, checkAnswer, checkNumber, refusalNumber}
+use Rattle.ask.specs.declared.Told.the-variants as told
+use Rattle.ask.specs.declared.AskAnswer.{AskAnswer}
+use Rattle.ask.specs.declared.AskAnswer.the-variants as asked
+use Rattle.ask.specs.Ask.{askAnswer, askNumber}
+use Rattle.find.specs.declared.lookup.Lookup.the-variants as lookup
+use Rattle.find.specs.declared.lookup.LookupAnswer.{LookupAnswer}
+use Rattle.find.specs.declared.lookup.LookupAnswer.the-variants as looked
+use Rattle.find.specs.declared.listing.Listing.the-variants as listing
+use Rattle.find.specs.declared.listing.ListingAnswer.{ListingAnswer}
+use Rattle.find.specs.declared.listing.ListingAnswer.the-variants as listed
+use Rattle.find.specs.Lookup.{lookupAnswer, lookupNumber}
+use Rattle.find.specs.Listing.{listingAnswer, listingNumber}
+use Rattle.loose.specs.declared.Loose.the-variants as loose
+use Rattle.loose.specs.declared.LooseAnswer.{LooseAnswer}
+use Rattle.loose.specs.declared.LooseAnswer.the-variants as loosely
+use Rattle.loose.specs.Loose.{looseAnswer, looseNumber}
+use Rattle.change.specs.declared.Fault.the-variants as edit
+use Rattle.places.specs.declared.name.Layout.the-variants as layout
+use Rattle.places.specs.Name.{nameOf}
+use Rattle.sort.specs.declared.twin.Twin.{Twin}
+use Rattle.sort.specs.declared.twin.Twin.the-variants as twin
+use Rattle.sort.specs.Twin.{firstTwin}
+use Rattle.edit.specs.declared.list.ListFault.{ListFault}
+use Rattle.edit.specs.declared.list.ListFault.the-variants as list
+use Rattle.edit.specs.declared.list.Prepared.{Prepared}
+use Rattle.edit.specs.declared.list.Prepared.the-variants as prepared
+use Rattle.edit.specs.List.{Listed, all, bad, editsOf, inOrder, twinsBy, twinsOf, preparedBy, preparedOf, indexBy, indexAfter, listFaultNumber}
+use Rattle.merge.specs.declared.Merged.{Merged}
+use Rattle.merge.specs.declared.Merged.the-variants.{Done, UnknownKind, TooLarge, BadList, ShortIndex, Twins, Refused, NothingToDo, NoRecord, ShortOutput}
+use Rattle.merge.specs.Entry.{Entry, Edit}
+use Rattle.merge.specs.Merge as merged
+use Rattle.merge.specs.Merge.{newFile, oldEntries, editsInOrder, finished, judgedBy, judged, mergeOf, mergeAnswer, mergeNumber, outputBy, outputAfter, indexAnswer}
+use Rattle.demands.specs.Refused.{AnsweredBy, Numbered, beforeEleven, Filled, Leaves, Demand1}
+
+-- ---- each answer has one of its numbers
+
+four : (f : Fault) → faultNumber f ≡ 4
+four Id = refl
+four Space = refl
+four LineEnd = refl
+four Name = refl
+four Peeled = refl
+
+header-number : (a : HeaderAnswer) → AnsweredBy (headerNumber a) (0 ∷ 17 ∷ 2 ∷ [])
+header-number (headed.Done (opened.Header h)) = refl
+header-number (headed.Done (opened.Unreadable k)) = refl
+header-number headed.TooLarge = refl
+
+start-number : (a : StartAnswer) → AnsweredBy (startNumber a) (0 ∷ 1 ∷ 17 ∷ 2 ∷ [])
+start-number (started.Done (start.At place item)) = refl
+start-number (started.Done (start.BadHeader k)) = refl
+start-number started.UnknownKind = refl
+start-number started.TooLarge = refl
+
+step-number : (a : StepAnswer) → AnsweredBy (stepNumber a) (0 ∷ 1 ∷ 17 ∷ [])
+step-number (stepped.Done r) = refl
+step-number stepped.UnknownKind = refl
+step-number stepped.TooLarge = refl
+
+check-number : (a : CheckAnswer) → AnsweredBy (checkNumber a) (0 ∷ 1 ∷ 17 ∷ 2 ∷ 4 ∷ 6 ∷ [])
+check-number (checked.Done (verdict.Clean count)) = refl
+check-number (checked.Done (verdict.Refused (refusal.BadHeader k))) = refl
+check-number (checked.Done (verdict.Refused (refusal.BadRecord place f))) = rw (four f)
+check-number (checked.Done (verdict.Refused (refusal.Unsorted place))) = refl
+check-number checked.UnknownKind = refl
+check-number checked.TooLarge = refl
+
+lookup-number : (a : LookupAnswer) → AnsweredBy (lookupNumber a) (0 ∷ 1 ∷ 17 ∷ 3 ∷ 4 ∷ 5 ∷ [])
+lookup-number (looked.Done (lookup.Charted place r)) = refl
+lookup-number (looked.Done (lookup.BadRecord place f)) = rw (four f)
+lookup-number (looked.Done lookup.Unsure) = refl
+lookup-number (looked.Done lookup.Absent) = refl
+lookup-number (looked.Done lookup.BadName) = refl
+lookup-number looked.UnknownKind = refl
+lookup-number looked.TooLarge = refl
+
+listing-number : (a : ListingAnswer) → AnsweredBy (listingNumber a) (0 ∷ 1 ∷ 17 ∷ 2 ∷ [])
+listing-number (listed.Done (listing.From place item)) = refl
+listing-number (listed.Done (listing.BadHeader place text)) = refl
+listing-number listed.UnknownKind = refl
+listing-number listed.TooLarge = refl
+
+ask-number : (a : AskAnswer) → AnsweredBy (askNumber a) (0 ∷ 1 ∷ 17 ∷ 3 ∷ 2 ∷ 4 ∷ 6 ∷ 5 ∷ [])
+ask-number (asked.Done (told.Charted place r)) = refl
+ask-number (asked.Done told.Absent) = refl
+ask-number (asked.Done told.BadName) = refl
+ask-number (asked.Done (told.Refused (refusal.BadHeader k))) = refl
+ask-number (asked.Done (told.Refused (refusal.BadRecord place f))) = rw (four f)
+ask-number (asked.Done (told.Refused (refusal.Unsorted place))) = refl
+ask-number asked.UnknownKind = refl
+ask-number asked.TooLarge = refl
+
+loose-number : (a : LooseAnswer) → AnsweredBy (looseNumber a) (0 ∷ 1 ∷ 17 ∷ 15 ∷ 16 ∷ [])
+loose-number (loosely.Done (loose.Id n)) = refl
+loose-number (loosely.Done (loose.Symbolic from len)) = refl
+loose-number (loosely.Done loose.Unreadable) = refl
+loose-number (loosely.Done loose.BadTarget) = refl
+loose-number loosely.UnknownKind = refl
+loose-number loosely.TooLarge = refl
+
+merge-number : (a : Merged) → AnsweredBy (mergeNumber a) (0 ∷ 1 ∷ 17 ∷ 7 ∷ 8 ∷ 9 ∷ 10 ∷ 11 ∷ 2 ∷ 4 ∷ 6 ∷ 13 ∷ 14 ∷ 12 ∷ [])
+merge-number (Done len) = refl
+merge-number UnknownKind = refl
+merge-number TooLarge = refl
+merge-number (BadList (list.BadEdit place edit.Malformed)) = refl
+merge-number (BadList (list.BadEdit place edit.BadName)) = refl
+merge-number (BadList (list.TooMany place)) = refl
+merge-number ShortIndex = refl
+merge-number (Twins place) = refl
+merge-number (Refused (refusal.BadHeader k)) = refl
+merge-number (Refused (refusal.BadRecord place f)) = rw (four f)
+merge-number (Refused (refusal.Unsorted place)) = refl
+merge-number NothingToDo = refl
+merge-number NoRecord = refl
+merge-number ShortOutput = refl
+
+-- ---- what a merge leaves
+
+-- only a merge that is done writes
+kept-out : (new out : List ℕ) (m : Merged) → (mergeNumber m ≡ 0 → ⊥) → outputBy new out m ≡ out
+kept-out new out (Done len) no = absurd (no refl)
+kept-out new out UnknownKind no = refl
+kept-out new out TooLarge no = refl
+kept-out new out (BadList why) no = refl
+kept-out new out ShortIndex no = refl
+kept-out new out (Twins place) no = refl
+kept-out new out (Refused why) no = refl
+kept-out new out NothingToDo no = refl
+kept-out new out NoRecord no = refl
+kept-out new out ShortOutput no = refl
+
+-- behind 11 no number is given that stands before it
+refusal-late : (why : Refusal) → beforeEleven (refusalNumber why) ≡ false
+refusal-late (refusal.BadHeader k) = refl
+refusal-late (refusal.BadRecord place f) = rw (four f)
+refusal-late (refusal.Unsorted place) = refl
+
+finished-late : (olds : List Entry) (edits : List Edit) (room : ℕ) → beforeEleven (mergeNumber (finished olds edits room)) ≡ false
+unfolding finished
+finished-late olds edits room = go _ _ _
+  where
+    go : (a b c : Bool) {len : ℕ} → beforeEleven (mergeNumber (if a NothingToDo (if b NoRecord (if c ShortOutput (Done len))))) ≡ false
+    go true b c = refl
+    go false true c = refl
+    go false false true = refl
+    go false false false = refl
+
+judged-late : (olds : List Entry) (edits : List Edit) (room : ℕ) (v : Verdict) → beforeEleven (mergeNumber (judgedBy olds edits room v)) ≡ false
+judged-late olds edits room (verdict.Clean count) = finished-late olds edits room
+judged-late olds edits room (verdict.Refused why) = refusal-late why
+
+module _ (n : ℕ) (old list index : List ℕ) (room : ℕ) where
+  abbrev answer : ℕ
+  answer = mergeNumber (mergeOf paper n old list (length index) room)
+
+  -- a list that can't be read, or whose index is short, is refused before 11 and leaves the index
+  data Index : Type 0 where
+    same : beforeEleven answer ≡ true → indexAfter paper n list index ≡ index → Index
+    filled : beforeEleven answer ≡ false → (places : List ℕ) → editsOf paper n list ≡ all places
+        → indexAfter paper n list index ≡ inOrder list places ++ drop (length places) index → Index
+
+  index-is : Index
+  unfolding mergeOf preparedOf indexAfter judged twinsOf
+  index-is = go (overLimit (length list)) refl (editsOf paper n list) refl
+    where
+      by-twin : (k : ℕ) (t : Twin) → beforeEleven (mergeNumber (merged.listed paper n old list room (twinsBy k t))) ≡ false
+      by-twin k (twin.At place) = refl
+      by-twin k twin.Nothing = judged-late (oldEntries paper n old) (editsInOrder paper n old list) room (checkOf paper n old)
+
+      fault-early : (why : ListFault) → beforeEleven (listFaultNumber why) ≡ true
+      fault-early (list.BadEdit place edit.Malformed) = refl
+      fault-early (list.BadEdit place edit.BadName) = refl
+      fault-early (list.TooMany place) = refl
+
+      go : (b : Bool) → overLimit (length list) ≡ b → (l : Listed) → editsOf paper n list ≡ l → Index
+      go true b l e = same (rw b) (rw b)
+      go false b (bad why) e = same (rw (b, e) (fault-early why)) (rw (b, e))
+      go false b (all places) e = by-room (ltb (length index) (length places)) refl
+        where
+          by-room : (c : Bool) → ltb (length index) (length places) ≡ c → Index
+          by-room true c = same (rw (b, e, c)) (rw (b, e, c))
+          by-room false c =
+              filled (rw (b, e, c) (by-twin (length places) (firstTwin (nameOf layout.Edit list) (inOrder list places)))) places e (rw (b, e, c))
+
+module _ (kind : ℕ) (old list index out : List ℕ) where
+  leaves : Leaves kind old list index out
+  unfolding mergeAnswer outputAfter indexAnswer
+  leaves =
+      record {
+        untouched = out-by (admission kind (length old) (length list)) refl;
+        unchanged = λ e. index-by (admission kind (length old) (length list)) refl .0 e;
+        filled = λ e. index-by (admission kind (length old) (length list)) refl .1 e;
+      }
+    where
+      out-by : (a : Admission) → admission kind (length old) (length list) ≡ a
+          → (mergeNumber (mergeAnswer kind old list (length index) (length out)) ≡ 0 → ⊥) → outputAfter kind old list (length index) out ≡ out
+      out-by (admitted.Digits n) e no-done =
+          rw e (kept-out (newFile (oldEntries paper n old) (editsInOrder paper n old list)) out (mergeOf paper n old list (length index) (length out)) (rw e at no-done))
+      out-by admitted.UnknownKind e no-done = rw e
+      out-by admitted.TooLarge e no-done = rw e
+
+      index-by : (a : Admission) → admission kind (length old) (length list) ≡ a
+          → (beforeEleven (mergeNumber (mergeAnswer kind old list (length index) (length out))) ≡ true → indexAnswer kind old list index ≡ index)
+          × (beforeEleven (mergeNumber (mergeAnswer kind old list (length index) (length out))) ≡ false → Filled kind old list index out)
+      index-by (admitted.Digits n) e = go (index-is n old list index (length out))
+        where
+          go : Index n old list index (length out)
+              → (beforeEleven (mergeNumber (mergeAnswer kind old list (length index) (length out))) ≡ true → indexAnswer kind old list index ≡ index)
+              × (beforeEleven (mergeNumber (mergeAnswer kind old list (length index) (length out))) ≡ false → Filled kind old list index out)
+          go (same early is) = (λ q. rw e is, λ q. absurd (let z : _≡_ {A = ℕ} 0 1 = cc (rw e at q) in omega arith))
+          go (filled late places whole is) =
+              (λ q. absurd (let z : _≡_ {A = ℕ} 0 1 = cc (rw e at q) in omega arith), λ q. record { digits = n; places = places; whole = whole; is = rw e is })
+      index-by admitted.UnknownKind e = (λ q. rw e, λ q. absurd (let z : _≡_ {A = ℕ} 0 1 = cc (rw e at q) in omega arith))
+      index-by admitted.TooLarge e = (λ q. rw e, λ q. absurd (let z : _≡_ {A = ℕ} 0 1 = cc (rw e at q) in omega arith))
+
+pub demand-1 : Demand1
+demand-1 =
+    record {
+      numbered =
+          record {
+            header = λ file. header-number (headerAnswer file);
+            start = λ kind file. start-number (startAnswer kind file);
+            step = λ kind prefix bytes place item. step-number (stepAnswer kind prefix bytes place item);
+            check = λ kind file. check-number (checkAnswer kind file);
+            lookup = λ kind body name. lookup-number (lookupAnswer kind body name);
+            listing = λ kind body prefix. listing-number (listingAnswer kind body prefix);
+            ask = λ kind file name. ask-number (askAnswer kind file name);
+            loose = λ kind content. loose-number (looseAnswer kind content);
+            merge = λ kind old list indexRoom room. merge-number (mergeAnswer kind old list indexRoom room);
+          };
+      leaves = leaves;
+    }

@@ -1,0 +1,76 @@
+-- Demand 1, of what callers lend and get: every call is answered or refused with a number, and what a refused merge leaves of the lent memory.
+-- That no call faults, overflows or runs for ever is what the proof of each function says, and no function that is exported asks for anything first.
+use mathlib.Core.Path.{_≡_}
+use mathlib.Core.Bool.{Bool, true, false, _||_}
+use mathlib.Core.List.{List, [], _∷_, _++_}
+use Prim.Native.Nat.{ℕ}
+use lib.Dec.{eqb}
+use lib.ListN.{length, drop}
+use Rattle.class.specs.Class.{paper}
+use Rattle.header.specs.Header.{headerAnswer, headerNumber}
+use Rattle.start.specs.Start.{startAnswer, startNumber}
+use Rattle.iter.specs.Step.{stepAnswer, stepNumber}
+use Rattle.checks.specs.Check.{checkAnswer, checkNumber}
+use Rattle.ask.specs.Ask.{askAnswer, askNumber}
+use Rattle.find.specs.Lookup.{lookupAnswer, lookupNumber}
+use Rattle.find.specs.Listing.{listingAnswer, listingNumber}
+use Rattle.loose.specs.Loose.{looseAnswer, looseNumber}
+use Rattle.edit.specs.List.{Listed, all, editsOf, inOrder}
+use Rattle.merge.specs.declared.Merged.the-variants.{Done}
+use Rattle.merge.specs.Merge.{mergeAnswer, mergeNumber, outputAfter, indexAnswer}
+
+abbrev pub isOneOf : ℕ → List ℕ → Bool
+isOneOf number [] = false
+isOneOf number (k ∷ l) = eqb number k || isOneOf number l
+
+-- ---- "Any bytes, any call: an answer or a numbered refusal"
+
+abbrev pub AnsweredBy : ℕ → List ℕ → Type 0
+AnsweredBy number l = isOneOf number l ≡ true
+
+pub record Numbered : Type 0 where
+  pub header : (file : List ℕ) → AnsweredBy (headerNumber (headerAnswer file)) (0 ∷ 17 ∷ 2 ∷ [])
+  pub start : (kind : ℕ) (file : List ℕ) → AnsweredBy (startNumber (startAnswer kind file)) (0 ∷ 1 ∷ 17 ∷ 2 ∷ [])
+  pub step : (kind : ℕ) (prefix bytes : List ℕ) (place item : ℕ) → AnsweredBy (stepNumber (stepAnswer kind prefix bytes place item)) (0 ∷ 1 ∷ 17 ∷ [])
+  pub check : (kind : ℕ) (file : List ℕ) → AnsweredBy (checkNumber (checkAnswer kind file)) (0 ∷ 1 ∷ 17 ∷ 2 ∷ 4 ∷ 6 ∷ [])
+  pub lookup : (kind : ℕ) (body name : List ℕ) → AnsweredBy (lookupNumber (lookupAnswer kind body name)) (0 ∷ 1 ∷ 17 ∷ 3 ∷ 4 ∷ 5 ∷ [])
+  pub listing : (kind : ℕ) (body prefix : List ℕ) → AnsweredBy (listingNumber (listingAnswer kind body prefix)) (0 ∷ 1 ∷ 17 ∷ 2 ∷ [])
+  pub ask : (kind : ℕ) (file name : List ℕ) → AnsweredBy (askNumber (askAnswer kind file name)) (0 ∷ 1 ∷ 17 ∷ 3 ∷ 2 ∷ 4 ∷ 6 ∷ 5 ∷ [])
+  pub loose : (kind : ℕ) (content : List ℕ) → AnsweredBy (looseNumber (looseAnswer kind content)) (0 ∷ 1 ∷ 17 ∷ 15 ∷ 16 ∷ [])
+  pub merge : (kind : ℕ) (old list : List ℕ) (indexRoom room : ℕ)
+      → AnsweredBy (mergeNumber (mergeAnswer kind old list indexRoom room)) (0 ∷ 1 ∷ 17 ∷ 7 ∷ 8 ∷ 9 ∷ 10 ∷ 11 ∷ 2 ∷ 4 ∷ 6 ∷ 13 ∷ 14 ∷ 12 ∷ [])
+
+-- ---- what a merge leaves of the memory that it is lent
+
+-- the refusals that stand before 11 in "Order: 1, 17, 7/8/9 by place, 10, 11, 2, 4/6 by place, 13, 14, 12."
+abbrev pub beforeEleven : ℕ → Bool
+beforeEleven number = isOneOf number (1 ∷ 17 ∷ 7 ∷ 8 ∷ 9 ∷ 10 ∷ [])
+
+module _ (kind : ℕ) (old list index out : List ℕ) where
+  abbrev pub number : ℕ
+  number = mergeNumber (mergeAnswer kind old list (length index) (length out))
+
+  abbrev pub outAfter : List ℕ
+  outAfter = outputAfter kind old list (length index) out
+
+  abbrev pub indexAfterwards : List ℕ
+  indexAfterwards = indexAnswer kind old list index
+
+  -- the whole list was read: so many edits, whose places these are
+  pub record Filled : Type 0 where
+    pub digits : ℕ
+    pub places : List ℕ
+    pub whole : editsOf paper digits list ≡ all places
+    pub is : indexAfterwards ≡ inOrder list places ++ drop (length places) index
+
+  pub record Leaves : Type 0 where
+    -- "A refused merge leaves the output untouched"
+    pub untouched : (number ≡ 0 → ⊥) → outAfter ≡ out
+    -- "before that it is unchanged"
+    pub unchanged : beforeEleven number ≡ true → indexAfterwards ≡ index
+    -- "From 11 on the index's first entries hold the edits' places in the list by name order [..]; entries behind are never touched."
+    pub filled : beforeEleven number ≡ false → Filled
+
+pub record Demand1 : Type 0 where
+  pub numbered : Numbered
+  pub leaves : (kind : ℕ) (old list index out : List ℕ) → Leaves kind old list index out

@@ -1,0 +1,37 @@
+-- A file's header, records, start, items and check, and loose content: any two outcomes allowed are the same.
+use denote.Ref.{now}
+use Rattle.header.proofs.read_header
+use Rattle.header.proofs.open as opening
+use Rattle.decode.proofs.reference.reference
+use Rattle.decode.proofs.reference.name_of
+use Rattle.start.proofs.begin
+use Rattle.start.proofs.begin_by
+use Rattle.iter.proofs.step.next as iter_next
+use Rattle.iter.proofs.step.next_with_prefix
+use Rattle.iterator.proofs.new
+use Rattle.iterator.proofs.next as iterator_next
+use Rattle.iterator.proofs.moved
+use Rattle.iterator.proofs.first
+use Rattle.checks.proofs.check
+use Rattle.checks.proofs.take_turn
+use Rattle.loose.proofs.read
+use Rattle.loose.proofs.target_of
+use Rattle.determined.specs.Outcomes.{Determined, DeterminedAs}
+
+pub record Files : Type 2 where
+  pub header-read-header : Determined read_header.ended (λ M. read_header.clauses)
+  pub header-open : Determined opening.ended (λ M. opening.clauses)
+  pub decode-reference : Determined reference.ended (λ M. reference.clauses)
+  pub decode-name-of : DeterminedAs name_of.ended (λ M. name_of.clauses) (λ κs r. now r)
+  pub start-begin : Determined begin.ended (λ M. begin.clauses)
+  pub start-begin-by : Determined begin_by.ended (λ M. begin_by.clauses)
+  pub iter-next : Determined iter_next.ended (λ M. iter_next.clauses)
+  pub iter-next-with-prefix : Determined next_with_prefix.ended (λ M. next_with_prefix.clauses)
+  pub iterator-new : Determined new.ended (λ M. new.clauses)
+  pub iterator-next : Determined iterator_next.ended (λ M. iterator_next.clauses)
+  pub iterator-moved : Determined moved.ended (λ M. moved.clauses)
+  pub iterator-first : Determined first.ended (λ M. first.clauses)
+  pub checks-check : Determined check.ended (λ M. check.clauses)
+  pub checks-take-turn : Determined take_turn.ended (λ M. take_turn.clauses)
+  pub loose-read : Determined read.ended (λ M. read.clauses)
+  pub loose-target-of : DeterminedAs target_of.ended (λ M. target_of.clauses) (λ κs r. now r)

@@ -1,0 +1,16 @@
+-- Lookup, prefix listing and the lookup that can be trusted on any bytes: any two outcomes allowed are the same.
+use Rattle.probe.proofs.shape.name_at_record_start
+use Rattle.probe.proofs.start.record_start
+use Rattle.search.proofs.search as searching
+use Rattle.find.proofs.lookup.find
+use Rattle.find.proofs.listing.list
+use Rattle.ask.proofs.ask
+use Rattle.determined.specs.Outcomes.{Determined}
+
+pub record Lookups : Type 2 where
+  pub probe-name-at-record-start : Determined name_at_record_start.ended (λ M. name_at_record_start.clauses)
+  pub probe-record-start : Determined record_start.ended (λ M. record_start.clauses)
+  pub search-search : Determined searching.ended (λ M. searching.clauses)
+  pub find-find : Determined find.ended (λ M. find.clauses)
+  pub find-list : Determined list.ended (λ M. list.clauses)
+  pub ask-ask : Determined ask.ended (λ M. ask.clauses)
