@@ -13,9 +13,8 @@ files = record {
   start-begin-by = λ m k o o′. by-answer k o o′ refl;
   iter-next = λ m k o o′. by-answer k o o′ refl;
   iter-next-with-prefix = λ m k o o′. by-answer k o o′ refl;
-  iterator-new = λ m k o o′. clauses-1 (m .𝓤) (λ p q. same k o o′ (λ i. record { s = one (p .0) (q .0) i; place = one (p .1) (q .1) i; item = one (p .2) (q .2) i }) refl);
-  iterator-next = λ m k o o′. by-answer k o o′ refl;
-  iterator-moved = λ m k o o′. clauses-1 (m .𝓤) (λ p q. same k o o′ (λ i. record { s = one (p .0) (q .0) i; place = one (p .1) (q .1) i; item = one (p .2) (q .2) i }) refl);
+  iterator-new = λ m k o o′. by-answer k o o′ refl;
+  iterator-next = λ m k o o′. clauses-1 (m .𝓤) (λ p q. same k o o′ (one (p .0) (q .0)) (λ i. (one (p .1) (q .1) i, tt)));
   iterator-first = λ m k o o′. by-answer k o o′ refl;
   checks-check = λ m k o o′. by-answer k o o′ refl;
   checks-take-turn = λ m k o o′. by-answer k o o′ refl;

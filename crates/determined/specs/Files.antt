@@ -10,7 +10,6 @@ use Rattle.iter.proofs.step.next as iter_next
 use Rattle.iter.proofs.step.next_with_prefix
 use Rattle.iterator.proofs.new
 use Rattle.iterator.proofs.next as iterator_next
-use Rattle.iterator.proofs.moved
 use Rattle.iterator.proofs.first
 use Rattle.checks.proofs.check
 use Rattle.checks.proofs.take_turn
@@ -29,7 +28,6 @@ pub record Files : Type 2 where
   pub iter-next-with-prefix : Determined next_with_prefix.ended (λ M. next_with_prefix.clauses)
   pub iterator-new : Determined new.ended (λ M. new.clauses)
   pub iterator-next : Determined iterator_next.ended (λ M. iterator_next.clauses)
-  pub iterator-moved : Determined moved.ended (λ M. moved.clauses)
   pub iterator-first : Determined first.ended (λ M. first.clauses)
   pub checks-check : Determined check.ended (λ M. check.clauses)
   pub checks-take-turn : Determined take_turn.ended (λ M. take_turn.clauses)
