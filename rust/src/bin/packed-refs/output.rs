@@ -67,6 +67,11 @@ impl Out {
         self.to.flush()
     }
 
+    /// What is not written by now is not to be written any more: nobody reads it.
+    pub fn discard(&mut self) {
+        let _ = std::mem::replace(&mut self.to, BufWriter::new(Stream::default())).into_parts();
+    }
+
     /// Something that is worth knowing beside an answer, on standard error.
     pub fn note(&self, words: impl fmt::Display) {
         if !self.is_quiet {

@@ -28,13 +28,16 @@ pub fn run(settings: &Settings, words: &[OsString], out: &mut Out) -> Ended {
     let mut listing = Listing { input: &input, prefix, nul: settings.nul, out, listed: 0 };
     match judged.check {
         Ok(table) => match listing.checked(&table) {
-            Ok(()) | Err(Trouble::Gone) => Ok(Status::Done),
-            Err(trouble) => Err(trouble),
+            Err(Trouble::Gone) => {
+                listing.out.discard();
+                Ok(Status::Done)
+            }
+            ended => ended.map(|()| Status::Done),
         },
-        Err(error) => match listing.damaged(judged.kind) {
-            Ok(()) => Err(Refusal::of(&input, "only what can be read is listed: ", &error).into()),
-            Err(trouble) => Err(trouble),
-        },
+        Err(error) => {
+            listing.damaged(judged.kind)?;
+            Err(Refusal::of(&input, "only what can be read is listed: ", &error).into())
+        }
     }
 }
 
@@ -64,9 +67,19 @@ impl Listing<'_> {
         Ok(())
     }
 
-    /// Damage can be everywhere: its words are gathered, as the records are. If they can't be written, the status still says it.
+    /// Damage can be everywhere: its words are gathered, as the records are. If they can't be written, the status still says it; if nobody reads the
+    /// records, nobody is told.
     fn damaged(&mut self, kind: IdKind) -> Result<(), Trouble> {
         let mut err = BufWriter::new(io::stderr());
+        let ended = self.all(kind, &mut err).and_then(|()| Ok(self.out.flush()?));
+        match ended {
+            Err(Trouble::Gone) => drop(err.into_parts()),
+            _ => drop(err.flush()),
+        }
+        ended
+    }
+
+    fn all(&mut self, kind: IdKind, err: &mut impl Write) -> Result<(), Trouble> {
         for item in all_items(kind, &self.input.bytes).map_err(|error| self.too_large(&error))? {
             match item {
                 Ok(record) if record.name.starts_with(self.prefix) => self.record(&record)?,
@@ -79,8 +92,6 @@ impl Listing<'_> {
                 }
             }
         }
-        self.out.flush()?;
-        let _ = err.flush();
         Ok(())
     }
 
