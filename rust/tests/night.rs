@@ -30,10 +30,10 @@ fn update(digit: char, name: &str) -> String {
 #[test]
 fn want_of_memory_is_no_answer() {
     let dir = Dir::new();
-    let lines: String = (0..20_000).map(|i| record('1', &format!("refs/s/{i:07}"))).collect();
+    let lines: String = (0..40_000).map(|i| record('1', &format!("refs/s/{i:07}"))).collect();
     let table = dir.file("table", lines.as_bytes());
     let damaged = dir.file("damaged", format!("rubbish\n{lines}").as_bytes());
-    let names = dir.file("names", (0..20_000).map(|i| format!("refs/s/{i:07}\n")).collect::<String>().as_bytes());
+    let names = dir.file("names", (0..40_000).map(|i| format!("refs/s/{i:07}\n")).collect::<String>().as_bytes());
     let edits = dir.file("edits", (0..4_000).map(|i| update('2', &format!("refs/t/{i:07}"))).collect::<String>().as_bytes());
     let new = dir.path("new");
     let mut refused = 0;
@@ -46,8 +46,8 @@ fn want_of_memory_is_no_answer() {
         (&["list", &table, "--json"], 0),
         (&["merge", &table, &edits, "-o", &new], 0),
     ] {
-        // below the first of these not even the loader gets on
-        for kib in (5_000..16_000).step_by(800) {
+        // with the first of these not even the loader gets on
+        for kib in (3_000..18_000).step_by(1_000) {
             dir.file("new", lines.as_bytes());
             let ran = shell(&format!("ulimit -v {kib}; exec \"$@\" >/dev/null"), args);
             if ran.status == 127 && ran.err.contains("error while loading shared libraries") {
