@@ -4,6 +4,9 @@
  * another, but an index and an output overlap nothing that is lent to the same call. Only packed_refs_merge writes, and only to its
  * index and its output. Nothing is allocated, and nothing is kept behind a call.
  *
+ * Stack: packed_refs_merge takes below 80 KiB (66 KiB on x86-64: 64 KiB of them are two places for each of 4,096 edits). Every other call takes
+ * below 1 KiB. Neither depends on what is lent. Functions may be called from any thread.
+ *
  * An answer comes back by value. Its first field is the number:
  *
  *    0  done                                              9  a 4,097th edit begins
@@ -123,8 +126,34 @@ struct packed_refs_ask_reply packed_refs_ask(
 
 /* ---- Merge ---- */
 
+/* An edit list is edits one after another, with nothing before, between or behind them. An edit is, byte by byte:
+ *
+ *   kind          1 byte: 0 delete, 1 update, 2 update with a peeled id
+ *   name length   1 or 2 bytes: seven bits each, the low ones first. A first byte of 0 to 127 is the length; of 128 to 255 it is the low seven bits, and
+ *                 the second byte, which is 1 to 127, says how many times 128 come to them. So 8 is 08, 127 is 7f, 128 is 80 01, and 4,096, which is
+ *                 the most, is 80 20. Of the two forms the shorter one is the only one: 8 as 88 00 is malformed.
+ *   name          so many bytes, which meet the name rules
+ *   id            kinds 1 and 2: 20 raw bytes, or 32 where the id kind is 2. Raw means two hex digits a byte, the first digit the high half
+ *   peeled id     kind 2: the same once more
+ *
+ * The order of the edits does not matter, and no two have one name. The empty list is zero bytes. Example: delete refs/s/c, and update refs/s/b to the
+ * id of forty digits 4, in 40 bytes:
+ *
+ *    0  00                             delete
+ *    1  08                             a name of 8 bytes
+ *    2  72 65 66 73 2f 73 2f 63        refs/s/c
+ *   10  01                             update
+ *   11  08                             a name of 8 bytes
+ *   12  72 65 66 73 2f 73 2f 62        refs/s/b
+ *   20  44 44 44 44 44 44 44 44 44 44  the id's first ten bytes
+ *   30  44 44 44 44 44 44 44 44 44 44  and the other ten
+ *
+ * On the old file `1* refs/s/a`, `2* refs/s/c` (where 1* is forty digits 1) that leaves in out the header's 46 bytes, `1* refs/s/a` and `4* refs/s/b`,
+ * 146 in all, and in index the places 10 and 0. */
+
 /* The old file and the edits give a new file in out. Beside 0 and from number 11 on in the order of refusals, the index's first entries hold the
- * edits' places in name order. The output is written beside 0 only, and not behind the new file's length. Lengths are counts of entries. */
+ * edits' places in name order. The output is written beside 0 only, and not behind the new file's length. Lengths are counts of entries: an index of
+ * 4,096 entries always suffices, and so does an output of 46 bytes, the old file's length and twice the list's. */
 struct packed_refs_merge_reply {
     uint32_t number;    /* 0, 1, 2, 4, 6 to 14, 17 */
     size_t place;       /* beside 4 and 6: where the item starts in old; beside 7, 8, 9 and 11: where the edit starts in edits */

@@ -2,7 +2,8 @@
 set -u
 cd "$(dirname "$0")/.." || exit 1
 log=$(mktemp) || exit 1
-trap 'rm -f "$log"' EXIT
+empty=$(mktemp) || exit 1
+trap 'rm -f "$log" "$empty"' EXIT
 ./packed-refs --version >/dev/null || exit 1
 if ! (cd rust && cargo test --release --offline --quiet) >"$log" 2>&1; then
     cat "$log"
@@ -14,9 +15,10 @@ grep -c '^test result: ok' "$log" | sed 's/$/ groups of Rust tests passed/'
 sender() { (cd rust && cargo run --release --offline --quiet --example sender -- "$@") 2>/dev/null; }
 name=refs/sent/ward4/o118
 failed=0
-for case in "0 night e3" "1 night e4" "0 damaged e3" "2 damaged e2" "2 missing e3"; do
+examples=$PWD/examples
+for case in "0 $examples/night e3" "1 $examples/night e4" "0 $examples/damaged e3" "2 $examples/damaged e2" "2 $examples/missing e3" "2 $empty e3"; do
     read -r status file last <<<"$case"
-    sender "../examples/$file" "$name/$last" >/dev/null
+    sender "$file" "$name/$last" >/dev/null
     got=$?
     [ $got -eq "$status" ] || { echo "sender $file $last: wanted $status, got $got"; failed=1; }
 done

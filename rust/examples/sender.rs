@@ -1,7 +1,7 @@
 //! A sender's retry: ask the table, then stop, send, or call someone. There is no fourth way.
 //!
 //!     cargo run --offline --example sender -- ../examples/night refs/sent/ward4/o118/e3
-use packed_refs::{ask, Escaped, Found, IdKind};
+use packed_refs::{Escaped, Found, IdKind, Opener};
 use std::os::unix::ffi::OsStringExt;
 use std::process::ExitCode;
 
@@ -11,13 +11,14 @@ fn main() -> ExitCode {
         eprintln!("usage: sender FILE NAME");
         return ExitCode::from(64);
     };
-    // A file that can't be read is no answer, and neither is one that is not there: where it should be is known.
-    let file = match std::fs::read(&path) {
-        Ok(file) => file,
-        Err(error) => return call_someone(&format!("the table can't be read: {error}")),
+    // A file that can't be read is no answer, and neither is one that is not there or has lost all its bytes: where it should be is known, and a
+    // table that was ever written to has bytes.
+    let table = match Opener::new().open(IdKind::Sha1, &path) {
+        Ok(table) => table,
+        Err(error) => return call_someone(&error.to_string()),
     };
     let name = name.into_vec();
-    match ask(IdKind::Sha1, &file, &name) {
+    match table.ask(&name) {
         Ok(Found::Charted(record)) => {
             println!("stop: {} is charted as {}", Escaped(&name), Escaped(record.id));
             ExitCode::SUCCESS

@@ -154,3 +154,42 @@ impl fmt::Debug for Error {
 }
 
 impl std::error::Error for Error {}
+
+#[cfg(test)]
+mod tests {
+    use super::*;
+    use crate::numbers::{ANSWERS, REFUSALS};
+
+    /// A number that this table does not know, and an answer where a refusal was asked for, are refusals that say so.
+    #[test]
+    fn a_foreign_number_is_never_an_answer() {
+        let answers = ANSWERS.iter().map(|row| row.number);
+        for number in answers.chain([18, 40, 46, 999, u32::MAX]) {
+            let error = Error::told(number, Given { place: Some(7), text: b"text" });
+            assert_eq!((error.number(), error.reason()), (number, Reason::Foreign(number)));
+            assert_eq!((error.place(), error.text()), (None, &b""[..]));
+            let words = error.to_string();
+            assert!(words.starts_with(&format!("number {number}: ")) && words.contains("Do not send."), "{words}");
+            assert!(words.contains("The program and the library do not belong together"), "{words}");
+        }
+    }
+
+    /// Whatever the number, the place and the text that belong to it are kept, and said.
+    #[test]
+    fn what_is_given_beside_a_number_is_kept() {
+        for reason in REFUSALS {
+            let row = reason.row();
+            let error = Error::told(row.number, Given { place: Some(70), text: b"# t\x1b" });
+            assert_eq!((error.number(), error.reason()), (row.number, *reason));
+            let words = error.to_string();
+            assert!(words.starts_with(&format!("number {}: {}", row.number, row.meaning)), "{words}");
+            assert!(words.ends_with(&format!(". {}", error.what_to_do())), "{words}");
+            assert_eq!(error.place().is_some(), row.beside != Beside::Nothing);
+            assert_eq!(words.contains("byte 70"), row.beside != Beside::Nothing, "{words}");
+            assert_eq!(error.text(), if row.beside == Beside::FirstLine { &b"# t\x1b"[..] } else { b"" });
+            assert_eq!(words.contains("# t\\x1b"), row.beside == Beside::FirstLine, "{words}");
+            assert_eq!(error.place_in_file().or(error.place_in_edits()), error.place());
+            assert_eq!(error.place_in_edits().is_some(), row.beside == Beside::Edit);
+        }
+    }
+}

@@ -197,7 +197,7 @@ impl<'p> Opener<'p> {
         Ok((is_same && is_whole).then_some(bytes))
     }
 
-    /// Reads to the end. A length that is too large is refused unread.
+    /// Reads to the end, or beyond the length that the file gave: it grew then, perhaps for ever. A length that is too large is refused unread.
     fn read_all(&mut self, mut from: impl Read, length: Option<u64>) -> Result<Vec<u8>, OpenTrouble> {
         let largest = LARGEST_INPUT as u64;
         let too_large = || OpenTrouble::Refused(Error::bare(Reason::TooLarge.row().number));
@@ -218,11 +218,11 @@ impl<'p> Opener<'p> {
             if bytes.len() as u64 > largest {
                 return Err(too_large());
             }
-            if got == 0 {
-                return Ok(bytes);
-            }
             if let Some(seen) = &mut self.seen {
                 seen(bytes.len() as u64, length);
+            }
+            if got == 0 || length.is_some_and(|length| length != 0 && bytes.len() as u64 > length) {
+                return Ok(bytes);
             }
         }
     }

@@ -23,20 +23,18 @@ pub fn ask_many<'a>(kind: IdKind, file: &'a (impl AsRef<[u8]> + ?Sized), names: 
     if error.reason() == Reason::TooLarge {
         return names.iter().map(|_| Err(error.clone())).collect();
     }
-    let firsts = first_records(table, names);
-    let told = names.iter().map(|name| {
-        check_name(name)?;
-        match firsts.get(name.as_ref()) {
-            Some(Some(record)) => Ok(Found::Charted(*record)),
-            Some(None) | None => Err(error.clone()),
-        }
+    let names: Vec<Result<&[u8], Error>> = names.iter().map(|name| check_name(name).map(|()| name.as_ref())).collect();
+    let firsts = first_records(table, names.iter().flatten().copied());
+    let told = names.into_iter().map(|name| match firsts.get(name?) {
+        Some(Some(record)) => Ok(Found::Charted(*record)),
+        Some(None) | None => Err(error.clone()),
     });
     told.collect()
 }
 
 /// For each name the first record that has it, if any. Behind a line that is no header nothing is looked for.
-fn first_records<'a, 'n>(table: Table<'a>, names: &'n [impl AsRef<[u8]>]) -> HashMap<&'n [u8], Option<Record<'a>>> {
-    let mut firsts: HashMap<&[u8], Option<Record<'a>>> = names.iter().map(|name| (name.as_ref(), None)).collect();
+fn first_records<'a, 'n>(table: Table<'a>, names: impl Iterator<Item = &'n [u8]>) -> HashMap<&'n [u8], Option<Record<'a>>> {
+    let mut firsts: HashMap<&[u8], Option<Record<'a>>> = names.map(|name| (name, None)).collect();
     let mut missing = firsts.len();
     let Ok(items) = table.items() else { return firsts };
     for record in items.flatten() {

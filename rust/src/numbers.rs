@@ -152,7 +152,7 @@ numbers! {
             "See in the chart which of the two holds. A delete of a name whose message is charted has it sent again.";
         12 ShortOutput Nothing: "the new file is longer than the room for it",
             "Hold back what the list names: nothing was written.",
-            "Give it room for the old file, twice the list and 46 bytes: that always suffices. From Rust it says that the memory does not.";
+            "Give it room for the old file, twice the list and 46 bytes: that always suffices. From Rust it means that there was not enough memory.";
         15 UnreadableLoose Nothing: "the loose content can't be read",
             "Do not send.",
             "Restore the loose file's content from the chart or from another copy. If it is removed, its name becomes absent.";

@@ -1,7 +1,7 @@
 //! A table of references in lent bytes: header, check, lookup, listing.
 use crate::error::Given;
 use crate::numbers::Beside;
-use crate::{sys, Error, Escaped, IdKind, Items};
+use crate::{sys, Error, Escaped, IdKind, Items, Reason};
 use std::fmt;
 
 /// A record: its parts are parts of the lent bytes, ids as they stand there.
@@ -247,8 +247,8 @@ impl<'a> Table<'a> {
             0 => Ok(Glance::Charted(Record::at(self.kind, records, said.place, said.name_at, said.name_len, said.peeled_at).behind(body))),
             5 => Ok(Glance::NotFound),
             number => {
-                // Beside 4, and beside it alone, a place of 0 may say that no record was hit.
-                let place = (number != 4 || said.place != 0).then_some(said.place + body);
+                // Beside number 4, and beside it alone, a place of 0 may say that no record was hit.
+                let place = (Reason::of(number) != Reason::BadRecord || said.place != 0).then_some(said.place + body);
                 let error = Error::told(number, Given { place, text: b"" });
                 match error.reason().row().beside {
                     Beside::Record => Ok(Glance::Unreadable(error)),

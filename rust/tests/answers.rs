@@ -111,6 +111,33 @@ fn errors_say_what_to_do() {
 }
 
 #[test]
+fn debug_prints_no_file() {
+    let bytes = format!("{} refs/s/{}\n", id('1'), "x".repeat(100_000)).repeat(2).into_bytes();
+    let (first, second) = bytes.split_at(bytes.len() / 2);
+    let table = Table::check(KIND, first).unwrap();
+    let wild = [&b"# \x1b[2J"[..], &bytes].concat();
+    let mut edits = Edits::new(KIND);
+    edits.update("refs/s/a", id('1')).unwrap();
+    let all = [
+        format!("{table:?} {:?}", table.table()),
+        format!("{:?} {:?}", table.records(), table.table().items().unwrap()),
+        format!("{:?}", table.find(&second[41..second.len() - 1])),
+        format!("{:?}", table.with_prefix(&second[41..])),
+        format!("{:?} {:?}", Table::check(KIND, &wild), Table::new(KIND, second).glance("refs/s/a")),
+        format!("{:?}", Table::new(KIND, &wild[3..]).items().unwrap().next()),
+        format!("{:?} {:?}", edits, merge(first, &edits)),
+        format!("{:?}", TableFile::new(KIND, first)),
+        format!("{:?}", TableFile::new(KIND, first).check()),
+        format!("{:?}", loose(KIND, &[&b"ref: "[..], &second[41..]].concat())),
+        format!("{:?}", Escaped(second)),
+    ];
+    for shown in all {
+        assert!(shown.len() < 700, "{} bytes: {}", shown.len(), &shown[..700]);
+        assert!(!shown.contains('\x1b'), "{shown}");
+    }
+}
+
+#[test]
 fn sha256() {
     let (a, b) = ("a".repeat(64), "b".repeat(64));
     let mut edits = Edits::new(IdKind::Sha256);
@@ -306,4 +333,42 @@ fn lookups_agree_on_good_and_on_damaged_files() {
         }
     }
     assert!(passed > 1000 && refused > 1000, "{passed} passed, {refused} refused");
+}
+
+#[test]
+fn many_names_are_told_what_each_is_told() {
+    let mut dice = Dice(0x1234_5678_9abc_def1);
+    let (mut passed, mut refused, mut charted) = (0, 0, 0);
+    for _ in 0..3000 {
+        let model = some_model(&mut dice);
+        let mut bytes = write_out(&model, ["", HEADER, "# other\n"][dice.below(7) / 3], ["\n", "\r\n"][dice.below(2)]);
+        for _ in 0..dice.below(3) {
+            if !bytes.is_empty() {
+                let at = dice.below(bytes.len());
+                bytes[at] = b"\n\r ^#/.a1g\x00\xff"[dice.below(12)];
+            }
+        }
+        if dice.below(4) == 0 {
+            // names twice, and out of order
+            bytes.extend_from_within(..);
+        }
+        let mut names: Vec<String> = (0..dice.below(8)).map(|_| some_name(&mut dice)).collect();
+        names.extend(["refs//x".to_string(), String::new()].into_iter().take(dice.below(3)));
+        names.extend(names.first().cloned());
+        let each: Vec<_> = names.iter().map(|name| ask(KIND, &bytes, name)).collect();
+        assert_eq!(ask_many(KIND, &bytes, &names), each);
+        assert_eq!(TableFile::new(KIND, bytes.clone()).ask_many(&names), each);
+        charted += each.iter().filter(|told| matches!(told, Ok(Found::Charted(_)))).count();
+        match Table::check(KIND, &bytes) {
+            Ok(_) => passed += 1,
+            Err(_) => refused += 1,
+        }
+    }
+    assert!(passed > 500 && refused > 500 && charted > 500, "{passed} passed, {refused} refused, {charted} charted");
+    // 1 byte over the limit: 17 before 3. It is never touched, so it costs no memory.
+    let large = vec![0; LARGEST_INPUT + 1];
+    let names = ["refs/s/a", "refs//a"];
+    assert_eq!(ask_many(KIND, &large, &names), names.map(|name| ask(KIND, &large, name)));
+    assert_eq!(ask_many(KIND, b"", &[&large]), [ask(KIND, b"", &large)]);
+    assert_eq!(ask_many(KIND, b"x\n", &[&large]), [ask(KIND, b"x\n", &large)]);
 }

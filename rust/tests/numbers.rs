@@ -1,0 +1,117 @@
+//! docs/NUMBERS.md, the C header and the crate's table of numbers say the same, and no advice makes a charted name absent.
+use packed_refs::numbers::{Beside, Row, ANSWERS, REFUSALS};
+use std::collections::BTreeSet;
+use std::path::{Path, PathBuf};
+
+fn root() -> PathBuf {
+    Path::new(env!("CARGO_MANIFEST_DIR")).join("..")
+}
+
+fn read(path: &str) -> String {
+    std::fs::read_to_string(root().join(path)).unwrap_or_else(|error| panic!("{path}: {error}"))
+}
+
+/// All rows of the table, by number.
+fn rows() -> Vec<Row> {
+    let mut rows: Vec<Row> = ANSWERS.iter().copied().chain(REFUSALS.iter().map(|reason| reason.row())).collect();
+    rows.sort_by_key(|row| row.number);
+    rows
+}
+
+/// The rows of the page: the cells of each line of its table.
+fn page() -> Vec<Vec<String>> {
+    let page = read("docs/NUMBERS.md");
+    let is_row = |line: &&str| line.strip_prefix("| ").is_some_and(|rest| rest.starts_with(|c: char| c.is_ascii_digit()));
+    let cells = |line: &str| line.trim_matches('|').split(" | ").map(|cell| cell.trim().to_string()).collect();
+    page.lines().filter(is_row).map(cells).collect()
+}
+
+#[test]
+fn the_page_says_what_the_messages_say() {
+    let (rows, page) = (rows(), page());
+    assert_eq!(page.len(), rows.len(), "as many rows");
+    for (row, cells) in rows.iter().zip(&page) {
+        let beside = if REFUSALS.iter().any(|reason| reason.row() == *row) { row.beside.words() } else { "see below" };
+        let wanted = [&row.number.to_string(), row.meaning, beside, row.sender, row.person];
+        assert_eq!(cells[..5], wanted, "the page's row should be:\n| {} | {}\n", wanted.join(" | "), cells[5..].join(" | "));
+    }
+}
+
+/// `[`name`](../crates/CRATE/specs/FILE.antt)` in the row's last cell: each leads to a definition, and one of them is the one that gives the number.
+#[test]
+fn each_number_leads_to_its_definition() {
+    for cells in page() {
+        let [number, .., links] = cells.as_slice() else { panic!("{cells:?}") };
+        let mut gives = false;
+        for link in links.split(", ") {
+            let parts = link.strip_prefix("[`").and_then(|rest| rest.strip_suffix(')')).and_then(|rest| rest.split_once("`](../"));
+            let (name, file) = parts.unwrap_or_else(|| panic!("number {number}: no link: {link}"));
+            let text = read(file);
+            assert!(text.lines().any(|line| line.contains(&format!(" pub {name} : "))), "number {number}: no {name} in {file}");
+            let clause = |line: &str| line.starts_with(&format!("{name} ")) && line.ends_with(&format!(" = {number}"));
+            gives |= text.lines().any(clause);
+        }
+        assert!(gives, "number {number}: none of {links} gives it");
+    }
+}
+
+/// A number that a definition gives and that has no row here would come out as one that nobody knows.
+#[test]
+fn every_number_that_is_defined_has_its_row() {
+    let known: BTreeSet<u32> = rows().iter().map(|row| row.number).collect();
+    let mut given = BTreeSet::new();
+    for dir in std::fs::read_dir(root().join("crates")).unwrap() {
+        let Ok(specs) = std::fs::read_dir(dir.unwrap().path().join("specs")) else { continue };
+        for file in specs {
+            let text = std::fs::read_to_string(file.unwrap().path()).unwrap();
+            for line in text.lines() {
+                let is_clause = line.split(' ').next().is_some_and(|first| first.ends_with("Number"));
+                if let (true, Some((_, number))) = (is_clause, line.rsplit_once(" = ")) {
+                    given.extend(number.parse::<u32>());
+                }
+            }
+        }
+    }
+    assert!(given.is_subset(&known), "given but without a row: {:?}", given.difference(&known));
+    assert_eq!(given, known);
+}
+
+#[test]
+fn the_c_header_lists_the_same_numbers() {
+    let header = read("include/packed_refs.h");
+    let list = header.split("Its first field is the number:").nth(1).unwrap().split("Every other field").next().unwrap();
+    // two columns of a number and its words
+    let mut listed = BTreeSet::new();
+    for line in list.lines() {
+        let words: Vec<&str> = line.split("  ").map(str::trim).filter(|word| !word.is_empty()).collect();
+        listed.extend(words.iter().filter_map(|word| word.trim_start_matches("* ").trim().parse::<u32>().ok()));
+    }
+    assert_eq!(listed, rows().iter().map(|row| row.number).collect());
+}
+
+/// Of each advice: if a tired person does exactly this, can a name that was charted become absent?
+#[test]
+fn no_advice_makes_a_charted_name_absent() {
+    for row in rows() {
+        let advice = row.person;
+        for harmful in ["last night's", "put back", "Delete", "split.", "restore the file"] {
+            assert!(!advice.contains(harmful), "number {}: {advice}", row.number);
+        }
+        // an older file is named only with what it loses
+        if advice.contains("older file") {
+            assert!(advice.contains("sent again"), "number {}: {advice}", row.number);
+        }
+        // whoever is sent to a file with damage is told what must not get lost there, and keeps it as it was
+        if matches!(row.beside, Beside::Record | Beside::FirstLine) {
+            assert!(advice.contains("sent again") && advice.contains("Copy the file"), "number {}: {advice}", row.number);
+        }
+        let is_answer = ANSWERS.contains(&row);
+        let holds_back = row.sender == "Do not send." || row.sender == "Hold back what the list names: nothing was written.";
+        assert_eq!(holds_back, !is_answer, "number {}: {}", row.number, row.sender);
+    }
+    let header = REFUSALS.iter().map(|reason| reason.row()).find(|row| row.number == 2).unwrap();
+    let least = "# pack-refs with: sorted ";
+    assert!(header.person.contains(&format!("'{least}'")));
+    let claims = packed_refs::header(format!("{least}\n")).unwrap();
+    assert_eq!((claims.peeled, claims.sorted), (packed_refs::Peeled::Unspecified, true));
+}
