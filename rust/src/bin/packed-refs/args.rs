@@ -263,7 +263,7 @@ impl Reading {
         };
         if name == "help" {
             let about = words.next().map(|name| command(&name)).transpose()?;
-            return Ok(Asked::Help(about));
+            return if words.next().is_none() { Ok(Asked::Help(about)) } else { Err("help wants at most one COMMAND".to_string()) };
         }
         let command = command(&name)?;
         if self.help {

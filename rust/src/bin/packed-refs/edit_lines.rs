@@ -19,7 +19,7 @@ pub struct EditLine<'a> {
 
 /// The edits of a file. They have one kind of ids, or none where all are deletes.
 pub struct EditLines<'a> {
-    pub file: String,
+    pub input: &'a Input,
     pub kind: Option<IdKind>,
     pub lines: Vec<EditLine<'a>>,
 }
@@ -34,7 +34,7 @@ impl<'a> EditLines<'a> {
     /// Reads `update NAME ID [PEELED]` and `delete NAME`, one a line. The last line has its line end too: without it the list may have been cut short,
     /// and a name cut short may be another one's. Behind the first edit too many nothing is read: the merge refuses that one.
     pub fn read(input: &'a Input) -> Result<EditLines<'a>, Trouble> {
-        let mut edits = EditLines { file: input.name.clone(), kind: None, lines: Vec::new() };
+        let mut edits = EditLines { input, kind: None, lines: Vec::new() };
         for (at, line) in input.bytes.split_inclusive(|b| *b == b'\n').enumerate() {
             if edits.lines.len() > MOST_EDITS {
                 break;
@@ -109,7 +109,7 @@ impl<'a> EditLines<'a> {
     /// What a merge refused about the list, told by lines of the file.
     pub fn refusal(&self, list: &EditList, place: usize, error: &Error) -> Refusal {
         let Some(line) = list.begins.iter().position(|begin| *begin == place).map(|at| &self.lines[at]) else {
-            return Refusal::new(format!("{}: {error}", self.file));
+            return Refusal::new(format!("{}: {error}", self.input.name));
         };
         let what = match error.reason() {
             Reason::TwoEdits => {
@@ -124,8 +124,8 @@ impl<'a> EditLines<'a> {
     /// The number of a reason, what is the matter in our own words, and what to do.
     fn refused(&self, line: usize, reason: Reason, what: &str) -> Refusal {
         let row = reason.row();
-        let words = format!("{}, line {line}: number {}: {what}. {} {}", self.file, row.number, row.sender, row.person);
-        Refusal { number: Some(row.number), file: Some(self.file.clone()), line: Some(line), ..Refusal::new(words) }
+        let words = format!("{}, line {line}: number {}: {what}. {} {}", self.input.name, row.number, row.sender, row.person);
+        Refusal { number: Some(row.number), file: Some(self.input.given.clone()), line: Some(line), ..Refusal::new(words) }
     }
 }
 

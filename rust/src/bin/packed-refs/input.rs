@@ -5,17 +5,17 @@ use crate::progress::Progress;
 use crate::refusal::{Refusal, Trouble};
 use crate::words::shown;
 use packed_refs::{Error, OpenError, OpenTrouble, Opener};
-use std::ffi::OsStr;
+use std::ffi::{OsStr, OsString};
 use std::fs::{File, Metadata};
 use std::io::{self, Read};
 use std::os::unix::fs::MetadataExt;
 use std::path::{Path, PathBuf};
 
 pub struct Input {
+    /// As it was named: a path, or `-` for standard input.
+    pub given: OsString,
     /// What messages call it.
     pub name: String,
-    /// Where it is, unless it is standard input.
-    pub path: Option<PathBuf>,
     pub bytes: Vec<u8>,
 }
 
@@ -41,17 +41,21 @@ impl Input {
 
     /// No file at all.
     pub fn none(path: &OsStr) -> Input {
-        Input { name: shown(path), path: Some(path.into()), bytes: Vec::new() }
+        Input { given: path.to_os_string(), name: shown(path), bytes: Vec::new() }
     }
 
     fn read(path: &OsStr, may_be_empty: bool) -> Result<Input, OpenError> {
         let name = shown(path);
         let progress = Progress::new(format!("reading {name}"), None);
         let opener = Opener::new().may_be_empty(may_be_empty).progress(|done, total| progress.at_of(done, total));
-        if path == "-" {
-            return Ok(Input { name, path: None, bytes: opener.bytes_from(Standard::open(), path)? });
-        }
-        Ok(Input { name, path: Some(path.into()), bytes: opener.bytes(path)? })
+        let bytes = if path == "-" { opener.bytes_from(Standard::open(), path)? } else { opener.bytes(path)? };
+        drop(progress);
+        Ok(Input { given: path.to_os_string(), name, bytes })
+    }
+
+    /// Where it is, unless it is standard input.
+    fn path(&self) -> Option<&Path> {
+        (self.given != "-").then(|| Path::new(&self.given))
     }
 
     /// The line that a place lies in, counted from 1.
@@ -65,7 +69,7 @@ impl Input {
             (Ok(one), Ok(other)) => (one.dev(), one.ino()) == (other.dev(), other.ino()),
             _ => false,
         };
-        match &self.path {
+        match self.path() {
             Some(own) => same(std::fs::metadata(own)),
             None => same(descriptors::input().and_then(|file| file.metadata())),
         }
@@ -73,7 +77,7 @@ impl Input {
 
     /// Where the file really is, links followed.
     pub fn real_path(&self) -> Option<PathBuf> {
-        self.path.as_deref().and_then(|path| Path::canonicalize(path).ok())
+        self.path().and_then(|path| path.canonicalize().ok())
     }
 }
 
@@ -126,7 +130,10 @@ impl Read for Standard {
 fn refusal(path: &OsStr, error: &OpenError) -> Refusal {
     let name = shown(path);
     let (words, number) = match error.trouble() {
-        OpenTrouble::NotThere => (format!("{name} is not there. Do not send. See whether the right file was named; an older one in its place lacks every name since."), None),
+        OpenTrouble::NotThere => (
+            format!("{name} is not there. Do not send. See whether the right file was named; an older one in its place lacks every name since."),
+            None,
+        ),
         OpenTrouble::Unreadable(error) => (format!("{name} can't be read: {error}. Do not send."), None),
         OpenTrouble::Empty => (
             format!(
@@ -141,5 +148,5 @@ fn refusal(path: &OsStr, error: &OpenError) -> Refusal {
         OpenTrouble::Refused(error) => (format!("{name}: {error}"), Some(Error::number(error))),
         other => (format!("{name} can't be read: {other:?}. Do not send."), None),
     };
-    Refusal { words, number, file: Some(name), ..Refusal::default() }
+    Refusal { words, number, file: Some(path.to_os_string()), ..Refusal::default() }
 }

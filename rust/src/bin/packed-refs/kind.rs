@@ -63,7 +63,7 @@ fn passes_otherwise(input: &Input, kind: IdKind) -> Refusal {
         kind.digits(),
         option(kind)
     );
-    Refusal { words, file: Some(input.name.clone()), ..Refusal::default() }
+    Refusal { words, file: Some(input.given.clone()), ..Refusal::default() }
 }
 
 fn both(input: &Input, short: usize, long: usize) -> Refusal {
@@ -74,5 +74,5 @@ fn both(input: &Input, short: usize, long: usize) -> Refusal {
         count(short, "record"),
         long
     );
-    Refusal { words, file: Some(input.name.clone()), ..Refusal::default() }
+    Refusal { words, file: Some(input.given.clone()), ..Refusal::default() }
 }

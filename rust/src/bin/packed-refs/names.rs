@@ -26,7 +26,7 @@ pub fn all<'a>(words: &'a [OsString], file: Option<&'a Input>, settings: &Settin
     }
     if names.is_empty() {
         return Err(Refusal {
-            file: Some(file.name.clone()),
+            file: Some(file.given.clone()),
             ..Refusal::new(format!("{}: there is no name in it: nothing was asked", file.name))
         }
         .into());
@@ -37,7 +37,7 @@ pub fn all<'a>(words: &'a [OsString], file: Option<&'a Input>, settings: &Settin
 fn cut(file: &Input, end: &str) -> Refusal {
     let line = file.line(file.bytes.len());
     let words = format!("{}, line {line}: no {end} ends the last name: the list may have been cut short, and nothing was asked", file.name);
-    Refusal { file: Some(file.name.clone()), line: Some(line), ..Refusal::new(words) }
+    Refusal { file: Some(file.given.clone()), line: Some(line), ..Refusal::new(words) }
 }
 
 /// The file of --names, if there is one. It and the table can't both be standard input.

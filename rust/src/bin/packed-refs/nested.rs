@@ -27,9 +27,9 @@ fn refusal(lines: &EditLines<'_>, line: usize, directory: &[u8], name: &[u8]) ->
     let words = format!(
         "{}, line {line}: {} would be a directory of {}, and Git can't clone such a table. Nothing was written. Mend what built the name and merge the \
          whole list, or say --allow-nested-names: an update that is left out has its message sent again.",
-        lines.file,
+        lines.input.name,
         Quoted(directory),
         Quoted(name)
     );
-    Refusal { file: Some(lines.file.clone()), line: Some(line), ..Refusal::new(words) }
+    Refusal { file: Some(lines.input.given.clone()), line: Some(line), ..Refusal::new(words) }
 }

@@ -4,7 +4,9 @@ use crate::json::Object;
 use crate::rule;
 use crate::words::Quoted;
 use packed_refs::{Error, Reason};
+use std::ffi::OsString;
 use std::io;
+use std::os::unix::ffi::OsStrExt;
 
 /// Why there is no answer.
 #[derive(Default)]
@@ -13,8 +15,8 @@ pub struct Refusal {
     pub words: String,
     /// The library's number, where it was the library that refused.
     pub number: Option<u32>,
-    /// What the file is called.
-    pub file: Option<String>,
+    /// The file, as it was named.
+    pub file: Option<OsString>,
     /// The name that was asked for.
     pub name: Option<Vec<u8>>,
     pub line: Option<usize>,
@@ -36,7 +38,7 @@ impl Refusal {
     fn at(input: &Input, line: Option<usize>, about: &str, error: &Error) -> Refusal {
         let place = line.map_or(String::new(), |line| format!(", line {line}"));
         let words = format!("{}{place}: {about}{error}", input.name);
-        let (number, file) = (Some(error.number()), Some(input.name.clone()));
+        let (number, file) = (Some(error.number()), Some(input.given.clone()));
         Refusal { words, number, file, line, byte: error.place_in_file(), name: None }
     }
 
@@ -59,7 +61,7 @@ impl Refusal {
         Object::new("none")
             .number("status", 2u32)
             .optional(self.number, |object, number| object.number("number", number))
-            .optional(self.file.as_deref(), |object, file| object.text("file", file))
+            .optional(self.file.as_deref(), |object, file| object.bytes("file", file.as_bytes()))
             .optional(self.name.as_deref(), |object, name| object.bytes("name", name))
             .optional(self.line, |object, line| object.count("line", line))
             .optional(self.byte, |object, byte| object.count("byte", byte))

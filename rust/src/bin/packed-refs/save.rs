@@ -73,5 +73,5 @@ fn refusal(error: &SaveError) -> Refusal {
         SaveTrouble::System(what, error) => format!("{name} {what}: {error}"),
         _ => error.to_string(),
     };
-    Refusal { file: Some(name), ..Refusal::new(words) }
+    Refusal { file: Some(error.path().into()), ..Refusal::new(words) }
 }

@@ -10,6 +10,7 @@ use crate::refusal::{Refusal, Trouble};
 use crate::words::count;
 use crate::Status;
 use std::ffi::OsString;
+use std::os::unix::ffi::OsStrExt;
 
 pub fn run(settings: &Settings, words: &[OsString], out: &mut Out) -> Ended {
     let [file] = words else { return Trouble::usage("check wants one FILE") };
@@ -17,7 +18,7 @@ pub fn run(settings: &Settings, words: &[OsString], out: &mut Out) -> Ended {
     let judged = judge(settings.kind, &input)?;
     let table = judged.check.map_err(|error| Refusal::of(&input, "", &error))?;
     let passed = || {
-        let object = Object::new("passed").number("status", 0u32).number("number", 0u32).text("file", &input.name);
+        let object = Object::new("passed").number("status", 0u32).number("number", 0u32).bytes("file", input.given.as_bytes());
         object
             .count("records", table.len())
             .optional((!table.is_empty()).then_some(judged.kind), |o, kind| o.count("digits", kind.digits()))

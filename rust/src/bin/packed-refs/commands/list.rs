@@ -23,6 +23,9 @@ pub fn run(settings: &Settings, words: &[OsString], out: &mut Out) -> Ended {
         [file, prefix] => (file, prefix.as_bytes()),
         _ => return Trouble::usage("list wants a FILE and at most one PREFIX"),
     };
+    if settings.json && settings.nul {
+        return Trouble::usage("list --json ends its lines by LF: leave out -z");
+    }
     let input = Input::table(file, settings)?;
     let judged = judge(settings.kind, &input)?;
     let mut listing = Listing { input: &input, prefix, nul: settings.nul, out, listed: 0 };
@@ -59,7 +62,7 @@ impl Listing<'_> {
         }
         drop(progress);
         if self.out.is_json {
-            let end = Object::new("listed").number("status", 0u32).number("number", 0u32).text("file", &self.input.name);
+            let end = Object::new("listed").number("status", 0u32).number("number", 0u32).bytes("file", self.input.given.as_bytes());
             self.out.object(end.count("records", self.listed))?;
         }
         self.out.flush()?;

@@ -122,5 +122,5 @@ fn too_few(input: &Input, name: &[u8], has: usize, least: usize) -> Refusal {
         Quoted(name),
         count(has, "record")
     );
-    Refusal { file: Some(input.name.clone()), name: Some(name.to_vec()), ..Refusal::new(words) }
+    Refusal { file: Some(input.given.clone()), name: Some(name.to_vec()), ..Refusal::new(words) }
 }

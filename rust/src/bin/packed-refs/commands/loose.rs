@@ -9,12 +9,13 @@ use crate::refusal::{Refusal, Trouble};
 use crate::Status;
 use packed_refs::{loose, Error, Escaped, IdKind, Loose, Reason};
 use std::ffi::OsString;
+use std::os::unix::ffi::OsStrExt;
 
 pub fn run(settings: &Settings, words: &[OsString], out: &mut Out) -> Ended {
     let [file] = words else { return Trouble::usage("loose wants one FILE") };
     let input = Input::other(file)?;
     let said = read(settings.kind, &input)?;
-    let object = |answer: &str| Object::new(answer).number("status", 0u32).number("number", 0u32).text("file", &input.name);
+    let object = |answer: &str| Object::new(answer).number("status", 0u32).number("number", 0u32).bytes("file", input.given.as_bytes());
     match said {
         Loose::Id(id) => out.answer(format_args!("0 id {}", Escaped(id)), || object("id").bytes("id", id))?,
         Loose::Symbolic(name) => out.answer(format_args!("0 symbolic {}", Escaped(name)), || object("symbolic").bytes("name", name))?,
@@ -39,5 +40,5 @@ fn read(forced: Option<IdKind>, input: &Input) -> Result<Loose<'_>, Refusal> {
 fn wrong_kind(input: &Input, kind: IdKind, error: &Error) -> Refusal {
     debug_assert_eq!(error.reason(), Reason::UnreadableLoose);
     let words = format!("{}: it holds an id of {} digits. No answer: leave out {}.", input.name, other(kind).digits(), option(kind));
-    Refusal { number: Some(error.number()), file: Some(input.name.clone()), ..Refusal::new(words) }
+    Refusal { number: Some(error.number()), file: Some(input.given.clone()), ..Refusal::new(words) }
 }

@@ -6,7 +6,7 @@ use crate::input::Input;
 use crate::json::Object;
 use crate::kind::judge;
 use crate::nested;
-use crate::output::Out;
+use crate::output::{say, Out};
 use crate::progress::Progress;
 use crate::refusal::{Refusal, Trouble};
 use crate::save::Guarded;
@@ -14,6 +14,7 @@ use crate::words::{count, shown};
 use crate::Status;
 use packed_refs::{merge, Checked, Error, IdKind, Merged, Rights, Table};
 use std::ffi::{OsStr, OsString};
+use std::os::unix::ffi::OsStrExt;
 
 pub fn run(settings: &Settings, words: &[OsString], out: &mut Out) -> Ended {
     let [old, edits] = words else { return Trouble::usage("merge wants OLD EDITS [-o NEW]") };
@@ -93,10 +94,12 @@ impl Merge<'_> {
             Some(lock) => {
                 let rights = if self.settings.other_rights { Rights::GoOn } else { Rights::Keep };
                 let lost = lock.replace(bytes, rights)?;
-                if !lost.is_nothing() {
-                    out.note(format_args!("the new file has not all rights of the old one: {lost}"));
+                let lost = (!lost.is_nothing()).then(|| lost.to_string());
+                if let Some(lost) = &lost {
+                    say(format_args!("the new file has not all rights of the old one: {lost}"));
                 }
-                self.answer(out, "written", Status::Done, 0, table.len())?;
+                let object = self.object("written", Status::Done, 0, table.len());
+                self.tell(object.optional(lost.as_deref(), |object, lost| object.text("rights", lost)), out)?;
             }
             None => out.data(bytes)?,
         }
@@ -106,7 +109,7 @@ impl Merge<'_> {
     }
 
     fn nothing_to_do(&self, records: usize, out: &mut Out) -> Ended {
-        self.answer(out, "nothing to do", Status::Absent, 13, records)?;
+        self.tell(self.object("nothing to do", Status::Absent, 13, records), out)?;
         out.note(format_args!(
             "number 13: nothing to do: no update, and no delete names a record of the old file; nothing was written. The old file has {}",
             count(records, "record")
@@ -118,19 +121,26 @@ impl Merge<'_> {
         match lock {
             Some(lock) => {
                 lock.remove()?;
-                self.answer(out, "removed", Status::Done, 14, 0)?;
+                self.tell(self.object("removed", Status::Done, 14, 0), out)?;
                 out.note("number 14: no record remains: there is no file now");
             }
-            None => out.note("number 14: no record remains, and so there is no new file. With -o the old one is removed under its lock"),
+            None => out.note(
+                "number 14: no record remains, and so there is no new file. If the list was meant to delete every record, -o removes the old one \
+                 under its lock",
+            ),
         }
         Ok(Status::Done)
     }
 
+    fn object(&self, answer: &str, status: Status, number: u32, records: usize) -> Object {
+        let object = Object::new(answer).number("status", status as u32).number("number", number);
+        object.optional(self.new, |object, new| object.bytes("file", new.as_bytes())).count("records", records)
+    }
+
     /// The line of JSON; in words only the count is told, on standard error.
-    fn answer(&self, out: &mut Out, answer: &str, status: Status, number: u32, records: usize) -> Result<(), Trouble> {
+    fn tell(&self, object: Object, out: &mut Out) -> Result<(), Trouble> {
         if out.is_json && !out.is_quiet {
-            let object = Object::new(answer).number("status", status as u32).number("number", number);
-            out.object(object.text("file", &self.new.map_or(String::new(), shown)).count("records", records))?;
+            out.object(object)?;
             out.flush()?;
         }
         Ok(())

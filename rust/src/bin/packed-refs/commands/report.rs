@@ -14,6 +14,7 @@ use crate::Status;
 use packed_refs::{header, Damage, Error, Escaped, IdKind, Reason, Record};
 use std::ffi::OsString;
 use std::io;
+use std::os::unix::ffi::OsStrExt;
 
 pub fn run(settings: &Settings, words: &[OsString], out: &mut Out) -> Ended {
     let [file] = words else { return Trouble::usage("report wants one FILE") };
@@ -99,7 +100,8 @@ impl<'a, 'o> Report<'a, 'o> {
         let status = if damaged + unsorted == 0 { Status::Done } else { Status::Refused };
         let words = format!("total: {}, {damaged} damaged, {unsorted} out of order, {}", count(records, "record"), count(bytes, "byte"));
         self.out.answer(words, || {
-            let object = Object::new("total").number("status", status as u32).text("file", &self.input.name).count("records", records);
+            let object =
+                Object::new("total").number("status", status as u32).bytes("file", self.input.given.as_bytes()).count("records", records);
             object.count("damaged", damaged).count("unsorted", unsorted).count("bytes", bytes)
         })?;
         Ok(status)
