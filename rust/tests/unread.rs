@@ -148,6 +148,16 @@ fn a_file_that_is_not_there_is_no_answer() {
     assert!(!common::run(&["--help"], b"").out.contains("counts as empty"));
 }
 
+/// A process that does not outlive the test, however the test ends.
+struct Stopped(std::process::Child);
+
+impl Drop for Stopped {
+    fn drop(&mut self) {
+        let _ = self.0.kill();
+        let _ = self.0.wait();
+    }
+}
+
 /// While a table is rewritten in place again and again, a name that stands in every version of it is never absent.
 #[test]
 fn a_table_that_is_rewritten_in_place_is_never_absent() {
@@ -157,7 +167,7 @@ fn a_table_that_is_rewritten_in_place_is_never_absent() {
     let table = dir.file("table", lines.as_bytes());
     let copy = dir.file("copy", lines.as_bytes());
     let last = format!("refs/s/{:0310}", 2_999);
-    let mut copying = Command::new("sh").args(["-c", "while :; do cp \"$0\" \"$1\"; done", &copy, &table]).spawn().unwrap();
+    let copying = Stopped(Command::new("sh").args(["-c", "while :; do cp \"$0\" \"$1\"; done", &copy, &table]).spawn().unwrap());
     let begun = Instant::now();
     let mut told = [0; 3];
     while begun.elapsed() < Duration::from_secs(5) {
@@ -167,8 +177,7 @@ fn a_table_that_is_rewritten_in_place_is_never_absent() {
         let ran = shell(&format!("exec \"$@\" <'{table}'"), &["lookup", "-", &last]);
         assert!([0, 2].contains(&ran.status), "{ran:?}");
     }
-    copying.kill().unwrap();
-    copying.wait().unwrap();
+    drop(copying);
     println!("{} charted, {} no answer", told[0], told[2]);
     std::fs::copy(&copy, &table).unwrap();
     assert_eq!(run(&["lookup", &table, &last]).status, 0);
