@@ -38,6 +38,7 @@
 //! Nothing is copied on reading: a [`Record`] borrows its name and its ids from the lent bytes.
 #![deny(unsafe_code)]
 #![deny(missing_docs)]
+#![deny(clippy::must_use_candidate)]
 
 #[forbid(unsafe_code)]
 mod edits;

@@ -10,6 +10,7 @@
 /// What [`header`] gives.
 #[repr(C)]
 #[derive(Clone, Copy, Debug, PartialEq, Eq)]
+#[must_use = "its first field says whether the rest is an answer"]
 pub struct HeaderReply {
     /// 0, 2 or 17.
     pub number: u32,
@@ -26,6 +27,7 @@ pub struct HeaderReply {
 /// What [`start`] gives.
 #[repr(C)]
 #[derive(Clone, Copy, Debug, PartialEq, Eq)]
+#[must_use = "its first field says whether the rest is an answer"]
 pub struct StartReply {
     /// 0, 1, 2 or 17.
     pub number: u32,
@@ -40,6 +42,7 @@ pub struct StartReply {
 /// What [`step`] and [`step_prefix`] give.
 #[repr(C)]
 #[derive(Clone, Copy, Debug, PartialEq, Eq)]
+#[must_use = "its first field says whether the rest is an answer"]
 pub struct StepReply {
     /// 0, 1 or 17.
     pub number: u32,
@@ -66,6 +69,7 @@ pub struct StepReply {
 /// What [`check`] gives.
 #[repr(C)]
 #[derive(Clone, Copy, Debug, PartialEq, Eq)]
+#[must_use = "its first field says whether the rest is an answer"]
 pub struct CheckReply {
     /// 0, 1, 2, 4, 6 or 17.
     pub number: u32,
@@ -80,6 +84,7 @@ pub struct CheckReply {
 /// What [`lookup`] gives.
 #[repr(C)]
 #[derive(Clone, Copy, Debug, PartialEq, Eq)]
+#[must_use = "its first field says whether the rest is an answer"]
 pub struct LookupReply {
     /// 0, 1, 3, 4, 5 or 17.
     pub number: u32,
@@ -96,6 +101,7 @@ pub struct LookupReply {
 /// What [`prefix`] gives.
 #[repr(C)]
 #[derive(Clone, Copy, Debug, PartialEq, Eq)]
+#[must_use = "its first field says whether the rest is an answer"]
 pub struct PrefixReply {
     /// 0, 1, 2 or 17.
     pub number: u32,
@@ -112,6 +118,7 @@ pub struct PrefixReply {
 /// What [`ask`] gives.
 #[repr(C)]
 #[derive(Clone, Copy, Debug, PartialEq, Eq)]
+#[must_use = "its first field says whether the rest is an answer"]
 pub struct AskReply {
     /// 0, 1, 2, 3, 4, 5, 6 or 17.
     pub number: u32,
@@ -130,6 +137,7 @@ pub struct AskReply {
 /// What [`merge`] gives.
 #[repr(C)]
 #[derive(Clone, Copy, Debug, PartialEq, Eq)]
+#[must_use = "its first field says whether the rest is an answer"]
 pub struct MergeReply {
     /// 0, or any of 1, 2, 4, 6 to 14, 17.
     pub number: u32,
@@ -144,6 +152,7 @@ pub struct MergeReply {
 /// What [`loose`] gives.
 #[repr(C)]
 #[derive(Clone, Copy, Debug, PartialEq, Eq)]
+#[must_use = "its first field says whether the rest is an answer"]
 pub struct LooseReply {
     /// 0, 1, 15, 16 or 17.
     pub number: u32,
@@ -199,6 +208,7 @@ pub fn header(file: &[u8]) -> HeaderReply {
 }
 
 /// Whether a name meets the name rules: 0, 3 or 17.
+#[must_use]
 pub fn name(name: &[u8]) -> u32 {
     unsafe { c::packed_refs_name(name.as_ptr(), name.len()) }
 }
@@ -224,6 +234,7 @@ pub fn check(kind: u32, file: &[u8]) -> CheckReply {
 }
 
 /// The start of the record that a place lies in.
+#[must_use]
 pub fn record_start(bytes: &[u8], place: usize) -> usize {
     unsafe { c::packed_refs_record_start(bytes.as_ptr(), bytes.len(), place) }
 }

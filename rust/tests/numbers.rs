@@ -1,6 +1,6 @@
 //! docs/NUMBERS.md, the C header and the crate's table of numbers say the same, and no advice makes a charted name absent.
 use packed_refs::numbers::{Beside, Row, ANSWERS, REFUSALS};
-use std::collections::BTreeSet;
+use std::collections::{BTreeMap, BTreeSet};
 use std::path::{Path, PathBuf};
 
 fn root() -> PathBuf {
@@ -37,21 +37,44 @@ fn the_page_says_what_the_messages_say() {
     }
 }
 
+/// What the definitions of numbers give: for each `..Number` in the crates' specs, the numbers and the other such definitions in its clauses.
+fn definitions() -> BTreeMap<String, BTreeSet<String>> {
+    let mut gives: BTreeMap<String, BTreeSet<String>> = BTreeMap::new();
+    for dir in std::fs::read_dir(root().join("crates")).unwrap() {
+        let Ok(specs) = std::fs::read_dir(dir.unwrap().path().join("specs")) else { continue };
+        for file in specs {
+            let text = std::fs::read_to_string(file.unwrap().path()).unwrap();
+            for line in text.lines() {
+                let (Some(name), Some((_, given))) = (line.split(' ').next(), line.rsplit_once(" = ")) else { continue };
+                let first = given.split(' ').next().unwrap_or_default();
+                if name.ends_with("Number") && (first.ends_with("Number") || given.parse::<u32>().is_ok()) {
+                    gives.entry(name.to_string()).or_default().insert(first.to_string());
+                }
+            }
+        }
+    }
+    gives
+}
+
+/// Whether a definition gives a number, or hands on to one that does.
+fn leads_to(gives: &BTreeMap<String, BTreeSet<String>>, name: &str, number: &str) -> bool {
+    gives.get(name).is_some_and(|given| given.contains(number) || given.iter().any(|next| next != name && leads_to(gives, next, number)))
+}
+
 /// `[`name`](../crates/CRATE/specs/FILE.antt)` in the row's last cell: each leads to a definition, and one of them is the one that gives the number.
 #[test]
 fn each_number_leads_to_its_definition() {
+    let gives = definitions();
     for cells in page() {
         let [number, .., links] = cells.as_slice() else { panic!("{cells:?}") };
-        let mut gives = false;
+        let mut is_given = false;
         for link in links.split(", ") {
             let parts = link.strip_prefix("[`").and_then(|rest| rest.strip_suffix(')')).and_then(|rest| rest.split_once("`](../"));
             let (name, file) = parts.unwrap_or_else(|| panic!("number {number}: no link: {link}"));
-            let text = read(file);
-            assert!(text.lines().any(|line| line.contains(&format!(" pub {name} : "))), "number {number}: no {name} in {file}");
-            let clause = |line: &str| line.starts_with(&format!("{name} ")) && line.ends_with(&format!(" = {number}"));
-            gives |= text.lines().any(clause);
+            assert!(read(file).lines().any(|line| line.contains(&format!(" pub {name} : "))), "number {number}: no {name} in {file}");
+            is_given |= leads_to(&gives, name, number);
         }
-        assert!(gives, "number {number}: none of {links} gives it");
+        assert!(is_given, "number {number}: none of {links} gives it");
     }
 }
 
@@ -59,20 +82,7 @@ fn each_number_leads_to_its_definition() {
 #[test]
 fn every_number_that_is_defined_has_its_row() {
     let known: BTreeSet<u32> = rows().iter().map(|row| row.number).collect();
-    let mut given = BTreeSet::new();
-    for dir in std::fs::read_dir(root().join("crates")).unwrap() {
-        let Ok(specs) = std::fs::read_dir(dir.unwrap().path().join("specs")) else { continue };
-        for file in specs {
-            let text = std::fs::read_to_string(file.unwrap().path()).unwrap();
-            for line in text.lines() {
-                let is_clause = line.split(' ').next().is_some_and(|first| first.ends_with("Number"));
-                if let (true, Some((_, number))) = (is_clause, line.rsplit_once(" = ")) {
-                    given.extend(number.parse::<u32>());
-                }
-            }
-        }
-    }
-    assert!(given.is_subset(&known), "given but without a row: {:?}", given.difference(&known));
+    let given: BTreeSet<u32> = definitions().values().flatten().filter_map(|given| given.parse().ok()).collect();
     assert_eq!(given, known);
 }
 
