@@ -48,6 +48,11 @@ want 2 '* is not there*' check "$dir/missing"
 want 64 '*try --help' lookup examples/night
 want 64 '*try --help'
 
+# the README's example, word for word
+example=$(sed -n '/^    \$ .\/packed-refs lookup/,/^$/s/^    //p' README.md)
+said=$(bash -c "$(sed -n '1s/^\$ //p' <<<"$example")" 2>&1)
+[ "$said" = "$(sed 1d <<<"$example")" ] || { echo "the README's example says otherwise: $said"; failed=1; }
+
 # from another directory, by a link
 ln -s "$PWD/packed-refs" "$dir/link"
 (cd / && "$dir/link" check "$dir/new") >/dev/null || { echo "by a link: failed"; failed=1; }
