@@ -4,7 +4,7 @@
  * another, but an index and an output overlap nothing that is lent to the same call. Only packed_refs_merge writes, and only to its
  * index and its output. Nothing is allocated, and nothing is kept behind a call.
  *
- * Stack: packed_refs_merge takes below 80 KiB (66 KiB on x86-64: 64 KiB of them are two places for each of 4,096 edits). Every other call takes
+ * Stack: packed_refs_merge takes below 80 KiB (65 KiB on x86-64: 64 KiB of them are two places for each of 4,096 edits). Every other call takes
  * below 1 KiB. Neither depends on what is lent. Functions may be called from any thread.
  *
  * An answer comes back by value. Its first field is the number:

@@ -1,6 +1,7 @@
 # What rt says, with how many crates and edits it has got through, of how many, and the time. Sourced by ./libhost and ./test.
 
-# counted TOTAL: reads what rt says and passes it on; a line that ends a crate or an edit begins with the count and the minutes and seconds.
+# counted TOTAL [quietly]: reads what rt says and passes it on; a line that ends a crate or an edit begins with the count and the minutes and seconds.
+# Quietly, these lines are all that is passed on.
 counted() {
     local count=0 line
     while IFS= read -r line; do
@@ -9,7 +10,7 @@ counted() {
                 count=$((count + 1))
                 printf '%d of %d, %d:%02d: %s\n' $count "$1" $((SECONDS / 60)) $((SECONDS % 60)) "${line#rt: }"
                 ;;
-            *) printf '%s\n' "$line" ;;
+            *) [ $# -gt 1 ] || printf '%s\n' "$line" ;;
         esac
     done
 }

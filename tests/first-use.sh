@@ -1,5 +1,5 @@
 # The first command on a fresh clone, with an rt and a cargo that only note what they are asked: it says where it is, proves on all processors, answers
-# on standard output alone, and what was proved and built is not proved and built again.
+# on standard output alone, and what was proved and built is not proved and built again. ./test says where it is, too.
 set -u
 cd "$(dirname "$0")/.." || exit 1
 dir=$(mktemp -d) || exit 1
@@ -7,8 +7,14 @@ trap 'rm -rf "$dir"' EXIT
 failed=0
 fail() { echo "first use: $*"; failed=1; }
 
+. share/counted.bash
+needs=$(needs_of host | tr '\n' ' ')
+count=$(wc -w <<<"$needs")
+
 fresh() {
     rm -rf "$dir/repo"
+    # shellcheck disable=SC2086
+    (mkdir -p "$dir/repo/crates" && cd "$dir/repo/crates" && mkdir -p $needs other)
     mkdir -p "$dir/repo/crates/host/src" "$dir/repo/rust/src" "$dir/repo/share" "$dir/bin"
     cp packed-refs libhost crates.txt "$dir/repo"
     cp share/counted.bash "$dir/repo/share"
@@ -25,6 +31,7 @@ command=$1
 shift
 case $command in
     check) for name; do echo "rt: $name proved (1 s)"; done; echo "rt: ok, $# crates proved" ;;
+    ci) echo "rt: class proved (1 s)"; echo "rt: must-fail class/x: refused, as it must be (1 s)"; echo "2 passed, 0 failed" ;;
     staticlib) mkdir -p target/staticlib; touch "target/staticlib/lib$1.a"; echo "rt: target/staticlib/lib$1.a has the functions" ;;
 esac
 END
@@ -39,10 +46,6 @@ chmod +x "$dir/rt" "$dir/cargo"
 export CALLS="$dir/calls"
 unset RT_JOBS
 ask() { PATH=$dir:$PATH "$dir/repo/packed-refs" "$@" 2>"$dir/err"; }
-
-. share/counted.bash
-needs=$(needs_of host | tr '\n' ' ')
-count=$(wc -w <<<"$needs")
 
 fresh
 said=$(ask lookup x)
@@ -67,6 +70,12 @@ touch "$dir/repo/crates/host/src/lib.rt"
 ask check y >/dev/null
 [ "$(wc -l <"$dir/calls")" -eq 3 ] || fail "a changed crate asked for: $(cat "$dir/calls")"
 
+# one that the library does not need is not
+: >"$dir/calls"
+touch "$dir/repo/crates/other/lib.rt"
+ask check y >/dev/null
+[ "$(cat "$dir/calls")" = "cargo: build --release --offline --quiet" ] || fail "another crate asked for: $(cat "$dir/calls")"
+
 # two at once build once
 fresh
 ask check 1 >"$dir/one" &
@@ -83,6 +92,19 @@ said=$(RT_FAILS=1 ask lookup x)
 status=$?
 [ $status -eq 2 ] && [ -z "$said" ] || fail "a failed proof: status $status, said $said"
 grep -q 'class NOT PROVED' "$dir/err" && grep -q 'the question was not answered' "$dir/err" || fail "a failed proof: $(cat "$dir/err")"
+
+# ./test: which part of how many, which crate or edit of how many, and the last line is rt's
+fresh
+mkdir -p "$dir/repo/tests" "$dir/repo/crates/class/must-fail"
+touch "$dir/repo/crates/class/must-fail/x.edit"
+echo 'echo "a test"' >"$dir/repo/tests/a.sh"
+cp test "$dir/repo"
+said=$(cd "$dir/repo" && git init -q . && PATH=$dir:$PATH ./test) || fail "./test failed: $said"
+all=$(($(grep -c '^[a-z]' crates.txt) + 1))
+for words in "== part 1 of 3, 0:0" "== part 2 of 3, 0:0" "1 of $all, 0:0.: class proved" "2 of $all, 0:0.: must-fail" "== part 3 of 3, 0:0.: tests/a.sh"; do
+    grep -q "$words" <<<"$said" || fail "./test says nothing like '$words': $said"
+done
+[ "$(tail -n 1 <<<"$said")" = "2 passed, 0 failed" ] || fail "the last line of ./test: $said"
 
 [ $failed -eq 0 ] && echo "first use: it says where it is, and proves once"
 exit $failed

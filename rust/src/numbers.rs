@@ -99,6 +99,7 @@ macro_rules! numbers {
 }
 
 numbers! {
+    // number: what it means, what the sender does, what a person does
     answers {
         0: "done: found, passed, read or merged",
             "A lookup's: stop, the name is charted.",
@@ -114,6 +115,7 @@ numbers! {
             "Every name is absent once the file is removed.",
             "Remove the old file, if the list was meant to delete every record. If it was not, keep the file and mend the list.";
     }
+    // number, reason, what is given beside it: what it means, what the sender does, what a person does
     refusals {
         1 UnknownKind Nothing: "the id kind is neither 1 (40 digits) nor 2 (64)",
             "Do not send.",
