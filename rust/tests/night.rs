@@ -169,6 +169,10 @@ fn a_merge_by_another_user() {
         println!("not tried: only root can be another user");
         return;
     }
+    if Command::new("setpriv").arg("--version").output().is_err() {
+        println!("not tried: setpriv is not there");
+        return;
+    }
     const OWNER: u32 = 54_001;
     const OTHER: u32 = 54_002;
     const GROUP: u32 = 54_003;

@@ -84,6 +84,12 @@ fn an_output_that_is_closed_is_no_answer() {
     shell("exec \"$@\" >&-", &["lookup", NIGHT, E4, "--quiet"]).is(1, "", "");
     let new = dir.path("new");
     shell("exec \"$@\" >&-", &["merge", NIGHT, EDITS, "-o", &new]).is(0, "", "the new file has 28 records");
+    // a merge that is done says so, even where its line of JSON can't be written
+    shell("exec \"$@\" >&-", &["merge", NIGHT, EDITS, "-o", &new, "--json"]).is(
+        2,
+        "",
+        "the merge is done, but standard output can't be written",
+    );
     // a file that is written never takes the place of a closed descriptor
     shell("exec \"$@\" <&- >&- 2>&-", &["merge", &new, EDITS, "-o", &new]).is(0, "", "");
     run(&["check", &new]).is(0, "0 passed: 28 records\n", "");

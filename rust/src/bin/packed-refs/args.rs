@@ -3,7 +3,7 @@ use crate::commands::{Command, COMMANDS};
 use crate::words::Quoted;
 use packed_refs::IdKind;
 use std::ffi::{OsStr, OsString};
-use std::os::unix::ffi::{OsStrExt, OsStringExt};
+use std::os::unix::ffi::OsStrExt;
 
 /// What the options say.
 #[derive(Default)]
@@ -190,47 +190,48 @@ struct Reading {
 
 impl Reading {
     fn arg<'a>(&mut self, arg: &'a OsString, rest: &mut impl Iterator<Item = &'a OsString>) -> Result<(), String> {
-        let bytes = arg.as_bytes();
-        match bytes {
+        match arg.as_bytes() {
             _ if self.is_closed => self.words.push(arg.clone()),
             b"--" => self.is_closed = true,
             b"--help" => self.help = true,
             b"--version" => self.version = true,
-            [b'-', b'-', long @ ..] => {
-                let mut parts = long.splitn(2, |b| *b == b'=');
-                let name = parts.next().unwrap_or_default();
-                let Some(choice) = CHOICES.iter().find(|choice| choice.long.as_bytes() == name) else {
-                    return Err(format!("there is no option {}", Quoted(bytes)));
-                };
-                match (choice.value, parts.next()) {
-                    (None, Some(_)) => return Err(format!("--{} takes no value", choice.long)),
-                    (_, given) => self.take(choice, given.map(OsStr::from_bytes), rest)?,
-                }
-            }
-            [b'-', shorts @ ..] if !shorts.is_empty() => {
-                for (at, short) in shorts.iter().enumerate() {
-                    match short {
-                        b'h' => self.help = true,
-                        b'V' => self.version = true,
-                        _ => {
-                            let Some(choice) = CHOICES.iter().find(|choice| choice.short == Some(*short)) else {
-                                return Err(format!(
-                                    "there is no option {}; a name or a file that begins with - stands behind --",
-                                    Quoted(bytes)
-                                ));
-                            };
-                            let attached = &shorts[at + 1..];
-                            if choice.value.is_some() && !attached.is_empty() {
-                                return self.take(choice, Some(OsStr::from_bytes(attached)), rest);
-                            }
-                            self.take(choice, None, rest)?;
-                        }
-                    }
-                }
-            }
+            [b'-', b'-', long @ ..] => return self.long(long, rest),
+            [b'-', first, more @ ..] => return self.short(*first, more, rest),
             _ => self.words.push(arg.clone()),
         }
         Ok(())
+    }
+
+    /// `--name` or `--name=value`.
+    fn long<'a>(&mut self, long: &[u8], rest: &mut impl Iterator<Item = &'a OsString>) -> Result<(), String> {
+        let mut parts = long.splitn(2, |b| *b == b'=');
+        let name = parts.next().unwrap_or_default();
+        let Some(choice) = CHOICES.iter().find(|choice| choice.long.as_bytes() == name) else {
+            return Err(no_option(&[b"--", name].concat()));
+        };
+        match (choice.value, parts.next()) {
+            (None, Some(_)) => Err(format!("--{} takes no value", choice.long)),
+            (_, given) => self.take(choice, given.map(OsStr::from_bytes), rest),
+        }
+    }
+
+    /// A letter, and more behind it: the value if it takes one, else more letters.
+    fn short<'a>(&mut self, letter: u8, more: &[u8], rest: &mut impl Iterator<Item = &'a OsString>) -> Result<(), String> {
+        match letter {
+            b'h' => self.help = true,
+            b'V' => self.version = true,
+            _ => {
+                let choice = CHOICES.iter().find(|choice| choice.short == Some(letter)).ok_or_else(|| no_option(&[b'-', letter]))?;
+                if choice.value.is_some() {
+                    return self.take(choice, (!more.is_empty()).then(|| OsStr::from_bytes(more)), rest);
+                }
+                self.take(choice, None, rest)?;
+            }
+        }
+        match more {
+            [] => Ok(()),
+            [next, more @ ..] => self.short(*next, more, rest),
+        }
     }
 
     /// An option with the value that was given with it, or else the next word.
@@ -286,7 +287,11 @@ impl Choice {
     }
 }
 
+fn no_option(word: &[u8]) -> String {
+    format!("there is no option {}; a name or a file that begins with - stands behind --", Quoted(word))
+}
+
 fn command(name: &OsStr) -> Result<&'static Command, String> {
     let found = COMMANDS.iter().find(|command| command.name.as_bytes() == name.as_bytes());
-    found.ok_or_else(|| format!("there is no command {}", Quoted(&name.to_os_string().into_vec())))
+    found.ok_or_else(|| format!("there is no command {}", Quoted(name.as_bytes())))
 }

@@ -45,7 +45,8 @@ impl<'a> EditLines<'a> {
                 return Err(malformed("the line has no line end: the list may have been cut short").into());
             };
             let line = line.strip_suffix(b"\r").unwrap_or(line);
-            let words: Vec<&[u8]> = line.split(|b| *b == b' ' || *b == b'\t').filter(|word| !word.is_empty()).collect();
+            // A fifth word is one too many, and so need not be counted.
+            let words: Vec<&[u8]> = line.split(|b| *b == b' ' || *b == b'\t').filter(|word| !word.is_empty()).take(5).collect();
             let (name, ids) = match words.as_slice() {
                 [] => continue,
                 [first, ..] if first.starts_with(b"#") => continue,

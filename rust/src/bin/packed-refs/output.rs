@@ -52,10 +52,10 @@ impl Out {
 
     /// No answer, as JSON; in words it is said on standard error.
     pub fn refusal(&mut self, refusal: &Refusal) -> io::Result<()> {
-        match self.is_json && !self.is_quiet {
-            true => self.object(refusal.object()),
-            false => Ok(()),
+        if !self.is_json || self.is_quiet {
+            return Ok(());
         }
+        self.object(refusal.object())
     }
 
     /// What was asked for as bytes.

@@ -4,19 +4,25 @@ use std::ffi::OsStr;
 use std::fmt;
 use std::os::unix::ffi::OsStrExt;
 
-/// A name in quotes, so that an empty one and a space at its end are seen.
+/// More of a name is not shown; no edit has a longer one.
+const LONGEST: usize = 4096;
+
+/// A name in quotes, so that an empty one and a space at its end are seen. A very long one is cut off.
 pub struct Quoted<'a>(pub &'a [u8]);
 
 impl fmt::Display for Quoted<'_> {
     fn fmt(&self, f: &mut fmt::Formatter<'_>) -> fmt::Result {
+        let shown = &self.0[..self.0.len().min(LONGEST)];
         f.write_str("'")?;
-        for (at, part) in self.0.split(|b| *b == b'\'').enumerate() {
-            if at > 0 {
-                f.write_str("\\x27")?;
-            }
-            write!(f, "{}", Escaped(part))?;
+        for (at, part) in shown.split(|b| *b == b'\'').enumerate() {
+            let quote = if at > 0 { "\\x27" } else { "" };
+            write!(f, "{quote}{}", Escaped(part))?;
         }
-        f.write_str("'")
+        f.write_str("'")?;
+        match self.0.len() - shown.len() {
+            0 => Ok(()),
+            more => write!(f, " and {more} bytes more"),
+        }
     }
 }
 

@@ -139,11 +139,11 @@ impl Merge<'_> {
 
     /// The line of JSON; in words only the count is told, on standard error.
     fn tell(&self, object: Object, out: &mut Out) -> Result<(), Trouble> {
-        if out.is_json && !out.is_quiet {
-            out.object(object)?;
-            out.flush()?;
+        if !out.is_json || out.is_quiet {
+            return Ok(());
         }
-        Ok(())
+        let written = out.object(object).and_then(|()| out.flush());
+        written.map_err(|error| Trouble::refused(format!("the merge is done, but standard output can't be written: {error}")))
     }
 
     fn refusal(&self, list: &EditList, error: &Error) -> Refusal {
