@@ -109,6 +109,8 @@ done
 for number in 0 2 4 5 17; do
     grep -q "^\.B $number\$" "$man" || fail "the man page lacks number $number"
 done
+numbers=$prefix/share/doc/packed-refs/NUMBERS.md
+[ "$(grep -c '^| [0-9]' "$numbers")" -ge 18 ] && ! grep -q 'crates/' "$numbers" || fail "the page of numbers: $(cat "$numbers")"
 if command -v groff >/dev/null; then
     said=$(groff -man -Tascii -ww "$man" 2>&1 >/dev/null)
     [ -z "$said" ] || fail "groff says of the man page: $said"

@@ -67,7 +67,7 @@ impl Error {
     /// The number of docs/NUMBERS.md.
     #[must_use]
     pub fn number(&self) -> u32 {
-        self.reason.row().number
+        self.reason.number()
     }
 
     /// Where it happened, counted in bytes from 0: in the file ([`Error::place_in_file`]) or in the edit list ([`Error::place_in_edits`]).

@@ -65,12 +65,14 @@ impl fmt::Display for OpenError {
     fn fmt(&self, f: &mut fmt::Formatter<'_>) -> fmt::Result {
         let path = Escaped(self.path.as_os_str().as_bytes());
         match &self.trouble {
-            OpenTrouble::NotThere => write!(f, "{path} is not there. Do not send."),
+            OpenTrouble::NotThere => {
+                write!(f, "{path} is not there. Do not send. See whether the right file was named; an older one in its place lacks every name since.")
+            }
             OpenTrouble::Unreadable(error) => write!(f, "{path} can't be read: {error}. Do not send."),
             OpenTrouble::Empty => write!(
                 f,
-                "{path} has no bytes at all, as a file has that could not be written. Do not send. \
-                 If a table without records is meant, say that it may be empty."
+                "{path} has zero bytes. Do not send. Neither Git nor a merge leaves such a file: a copy may be under way or may have failed. Ask again, \
+                 and if it stays so, restore the table with every record that was in it. Only before the first record may it be said to be empty."
             ),
             OpenTrouble::Changed => {
                 write!(f, "{path} was changed while it was read, {ATTEMPTS} times in a row. Do not send; ask again.")
@@ -200,7 +202,7 @@ impl<'p> Opener<'p> {
     /// Reads to the end, or beyond the length that the file gave: it grew then, perhaps for ever. A length that is too large is refused unread.
     fn read_all(&mut self, mut from: impl Read, length: Option<u64>) -> Result<Vec<u8>, OpenTrouble> {
         let largest = LARGEST_INPUT as u64;
-        let too_large = || OpenTrouble::Refused(Error::bare(Reason::TooLarge.row().number));
+        let too_large = || OpenTrouble::Refused(Error::bare(Reason::TooLarge.number()));
         if length.is_some_and(|length| length > largest) {
             return Err(too_large());
         }

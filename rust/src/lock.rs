@@ -68,8 +68,8 @@ impl fmt::Display for SaveError {
         match &self.trouble {
             SaveTrouble::Locked(lock) => write!(
                 f,
-                "{} is there: another program is writing {path}, or was stopped while it did. {path} is whole. \
-                 If no such program runs, remove the lock and try again.",
+                "{} is there: another program is writing {path}, or was stopped while it did. {path} is whole, and nothing was written. Try again. \
+                 Only if no program writes it, here or on another machine, remove the lock: removed under one that does, its edits are lost.",
                 shown(lock)
             ),
             SaveTrouble::NoRegularFile => write!(f, "{path} is no regular file: it can't be replaced"),

@@ -70,6 +70,12 @@ macro_rules! numbers {
                 }
             }
 
+            /// The number of docs/NUMBERS.md.
+            #[must_use]
+            pub fn number(self) -> u32 {
+                self.row().number
+            }
+
             /// The row of the table.
             #[must_use]
             pub fn row(self) -> Row {

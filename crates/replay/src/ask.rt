@@ -131,9 +131,7 @@ fn check(kind: u32, file: &[u8]) {
     tell::number(n);
     match n {
         0 => tell::place(r.count),
-        2 => tell::place(r.text_len),
-        4 | 6 => tell::place(r.place),
-        _ => {},
+        _ => tell::refusal(n, r.place, r.text_len),
     }
 }
 
@@ -148,8 +146,7 @@ fn lookup(kind: u32, body: &[u8], name: &[u8]) {
     tell::number(n);
     match n {
         0 => record(r.place, r.name_at, r.name_len, r.peeled_at),
-        4 => tell::place(r.place),
-        _ => {},
+        _ => tell::refusal(n, r.place, 0),
     }
 }
 
@@ -159,9 +156,7 @@ fn trusted(kind: u32, file: &[u8], name: &[u8]) {
     tell::number(n);
     match n {
         0 => record(r.place, r.name_at, r.name_len, r.peeled_at),
-        2 => tell::place(r.text_len),
-        4 | 6 => tell::place(r.place),
-        _ => {},
+        _ => tell::refusal(n, r.place, r.text_len),
     }
 }
 

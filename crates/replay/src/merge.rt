@@ -50,9 +50,7 @@ fn told(r: host::write::MergeReply) {
     tell::number(n);
     match n {
         0 => tell::place(r.length),
-        2 => tell::place(r.text_len),
-        4 | 6 | 7 | 8 | 9 | 11 => tell::place(r.place),
-        _ => {},
+        _ => tell::refusal(n, r.place, r.text_len),
     }
 }
 

@@ -17,3 +17,13 @@ pub(crate) fn number(n: u32) {
 pub(crate) fn place(n: usize) {
     count(n as u64);
 }
+
+// What stands beside the number of a refusal: beside 2 its text's length, beside these nothing, beside any other its place. So a number that is new
+// here is told with its place.
+pub(crate) fn refusal(number: u32, at: usize, text_len: usize) {
+    match number {
+        2 => place(text_len),
+        1 | 3 | 5 | 10 | 12 | 13 | 14 | 15 | 16 | 17 => {},
+        _ => place(at),
+    }
+}
