@@ -15,7 +15,7 @@ use Rattle.checks.specs.Check.{judgeBody}
 use Rattle.checks.specs.Passes.{Passes}
 use Rattle.iter.proofs.Items.{tile}
 use Rattle.checks.proofs.Passes.{judged}
-use Rattle.places.specs.Name.{editName}
+use Rattle.parts.specs.Parts.{editName}
 use Rattle.put.specs.Put.{over}
 use Rattle.text.specs.Text.{withoutCR}
 use Rattle.put.proofs.Laws.{over-fits}

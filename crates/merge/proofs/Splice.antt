@@ -1,17 +1,16 @@
 -- What the new file is made of: texts put one behind another, an edit's lines by its kind, and the bytes that a turn of the writing puts.
 use mathlib.Core.Path.{_≡_, refl, sym, ap, _∙_}
-use mathlib.Core.Bool.{Bool, true, false}
 use mathlib.Core.List.{List, [], _∷_, _++_, append-nil}
-use Prim.Native.Nat.{ℕ, zero, suc, _+_, _*_, _-_, _/_, _%_, _≤_, _<_}
+use Prim.Native.Nat.{ℕ, zero, suc, _+_, _*_, _-_, _/_, _≤_, _<_}
 use native.Mathlib.Nat.{add-zero}
 use native.Mathlib.Numerals.{add-one}
 use native.Mathlib.Omega.{arith}
-use lib.Dec.{ltb}
 use lib.ListN.{length, getD, take, drop, length-append, length-take, length-drop, drop-of-length-le}
 use lib.Seq.{drop-cons, drop-drop, getD-drop}
-use Rattle.parse.specs.Choice.{if}
-use Rattle.places.specs.Name.{editName}
-use Rattle.change.specs.Change.{behindName}
+use Rattle.length.specs.declared.Length.{Length}
+use Rattle.length.specs.declared.Length.the-variants.{Of, Malformed}
+use Rattle.length.specs.Length.{lengthAt, measured}
+use Rattle.parts.specs.Parts.{editKind, editName, behindName, editId, editPeeled}
 use Rattle.put.specs.Put.{over}
 use Rattle.text.specs.Text.{hexText, withoutCR}
 use Rattle.put.proofs.Laws.{over-twice}
@@ -55,11 +54,11 @@ length-part k from s =
 
 pub length-name : (list : List ℕ) (place : ℕ) → length (editName list place) ≤ length list
 unfolding editName
-length-name list place = go (getD list (place + 1) 0) (getD list (place + 1) 0 % 128 + 128 * getD list (place + 2) 0) (ltb (getD list (place + 1) 0) 128)
+length-name list place = go (lengthAt list (place + 1))
   where
-    go : (short long : ℕ) (t : Bool) → length (if t (take short (drop (place + 2) list)) (take long (drop (place + 3) list))) ≤ length list
-    go short long true = length-part short (place + 2) list .1
-    go short long false = length-part long (place + 3) list .1
+    go : (l : Length) → length (measured l (λ len from. take len (drop from list)) []) ≤ length list
+    go (Of len from) = length-part len from list .1
+    go Malformed = omega arith
 
 -- ---- the lines of the edit at a place
 
@@ -67,17 +66,14 @@ module _ (n : ℕ) (list : List ℕ) (place : ℕ) where
   abbrev pub newLines : List ℕ
   newLines = linesOfAll (editAt n list place .new)
 
-  abbrev ids : List ℕ
-  ids = behindName list place
-
   abbrev ofKind : ℕ → List ℕ
-  ofKind k = linesOfAll (newOf n k (editName list place) ids)
+  ofKind k = linesOfAll (newOf k (editName list place) (editId n list place) (editPeeled n list place))
 
   abbrev pub firstLine : List ℕ
-  firstLine = recordLine (hexText (take (n / 2) ids)) (editName list place)
+  firstLine = recordLine (hexText (editId n list place)) (editName list place)
 
   abbrev pub secondLine : List ℕ
-  secondLine = objectLine (hexText (take (n / 2) (drop (n / 2) ids)))
+  secondLine = objectLine (hexText (editPeeled n list place))
 
   of-one : ofKind 1 ≡ firstLine
   of-one = append-nil (firstLine ++ []) ∙ append-nil firstLine
@@ -85,29 +81,29 @@ module _ (n : ℕ) (list : List ℕ) (place : ℕ) where
   of-two : (k : ℕ) → ofKind (suc (suc k)) ≡ firstLine ++ secondLine
   of-two k = append-nil (firstLine ++ secondLine)
 
-  pub lines-none : getD list place 0 ≡ 0 → newLines ≡ []
+  pub lines-none : editKind list place ≡ 0 → newLines ≡ []
   lines-none e = ap ofKind e
 
-  pub lines-one : getD list place 0 ≡ 1 → newLines ≡ firstLine
+  pub lines-one : editKind list place ≡ 1 → newLines ≡ firstLine
   lines-one e = ap ofKind e ∙ of-one
 
-  pub lines-two : (getD list place 0 ≡ 0 → ⊥) → (getD list place 0 ≡ 1 → ⊥) → newLines ≡ firstLine ++ secondLine
-  lines-two none one = go (getD list place 0) refl
+  pub lines-two : (editKind list place ≡ 0 → ⊥) → (editKind list place ≡ 1 → ⊥) → newLines ≡ firstLine ++ secondLine
+  lines-two none one = go (editKind list place) refl
     where
-      go : (k : ℕ) → getD list place 0 ≡ k → ofKind k ≡ firstLine ++ secondLine
+      go : (k : ℕ) → editKind list place ≡ k → ofKind k ≡ firstLine ++ secondLine
       go zero e = absurd (none e)
       go (suc zero) e = absurd (one e)
       go (suc (suc k)) e = of-two k
 
   pub length-first : length firstLine ≤ n + length list + 2
   length-first =
-      omega (arith, length-record (take (n / 2) ids) (editName list place), length-part (n / 2) 0 ids .0, length-name list place)
+      omega (arith, length-record (editId n list place) (editName list place), length-part (n / 2) 0 (behindName list place) .0, length-name list place)
 
   pub length-second : length secondLine ≤ n + 2
-  length-second = omega (arith, length-object (take (n / 2) (drop (n / 2) ids)), length-part (n / 2) (n / 2) ids .0)
+  length-second = omega (arith, length-object (editPeeled n list place), length-part (n / 2) (n / 2) (behindName list place) .0)
 
   pub length-new : length newLines ≤ 2 * n + length list + 4
-  length-new = go (getD list place 0)
+  length-new = go (editKind list place)
     where
       go : (k : ℕ) → length (ofKind k) ≤ 2 * n + length list + 4
       go zero = omega arith

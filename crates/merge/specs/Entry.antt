@@ -1,13 +1,12 @@
 -- A record of the new file, and an edit.
 use mathlib.Core.List.{List, [], _∷_, _++_}
 use mathlib.Core.Option.{Option, none, some}
-use Prim.Native.Nat.{ℕ, zero, suc, _/_}
-use lib.ListN.{getD, take, drop}
+use Prim.Native.Nat.{ℕ, zero, suc}
+use lib.ListN.{take, drop}
 use Rattle.decode.specs.declared.reference.Reading.{Reading}
 use Rattle.decode.specs.declared.reference.Reading.the-variants.{Good, Bad}
 use Rattle.iter.specs.Items.{Item, nameOf}
-use Rattle.places.specs.Name.{editName}
-use Rattle.change.specs.Change.{behindName}
+use Rattle.parts.specs.Parts.{editKind, editName, editId, editPeeled}
 use Rattle.text.specs.Text.{hexText}
 
 -- a record: its name, its id, and its peeled id if it has one, both in digits
@@ -59,18 +58,18 @@ pub record Edit : Type 0 where
   pub name : List ℕ
   pub new : List Entry
 
--- "Kind byte: 0 delete, 1 update, 2 update with peeled id"; "For 1 and 2 the id in raw bytes (20 or 32), for 2 the peeled id";
--- "new ids in the sixteen lower-case digits"
-abbrev pub newOf : ℕ → ℕ → List ℕ → List ℕ → List Entry
-newOf n zero name ids = []
-newOf n (suc zero) name ids = record { name = name; id = hexText (take (n / 2) ids); object = none } ∷ []
-newOf n (suc (suc kind)) name ids =
-    record { name = name; id = hexText (take (n / 2) ids); object = some (hexText (take (n / 2) (drop (n / 2) ids))) } ∷ []
+-- by its kind, its name, its id and its peeled id in raw bytes: "0 delete, 1 update, 2 update with peeled id"; "new ids in the sixteen
+-- lower-case digits"
+abbrev pub newOf : ℕ → List ℕ → List ℕ → List ℕ → List Entry
+newOf zero name id peeled = []
+newOf (suc zero) name id peeled = record { name = name; id = hexText id; object = none } ∷ []
+newOf (suc (suc kind)) name id peeled = record { name = name; id = hexText id; object = some (hexText peeled) } ∷ []
 
 -- the edit at a place of the list
 abbrev pub editAt : ℕ → List ℕ → ℕ → Edit
 editAt n list place =
-    record { name = editName list place; new = newOf n (getD list place 0) (editName list place) (behindName list place) }
+    let name = editName list place in
+    record { name = name; new = newOf (editKind list place) name (editId n list place) (editPeeled n list place) }
 
 abbrev pub editsAt : ℕ → List ℕ → List ℕ → List Edit
 editsAt n list [] = []

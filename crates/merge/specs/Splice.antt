@@ -9,7 +9,7 @@ use lib.ListN.{getD, length, take, drop}
 use Rattle.compare.specs.declared.order.Order.the-variants.{Less}
 use Rattle.parse.specs.Choice.{if}
 use Rattle.compare.specs.Order.{orderOf}
-use Rattle.places.specs.Name.{editName}
+use Rattle.parts.specs.Parts.{editName}
 use Rattle.text.specs.Text.{withoutCR}
 use Rattle.merge.specs.declared.Merged.{Merged}
 use Rattle.merge.specs.declared.Merged.the-variants.{Done, NothingToDo, NoRecord, ShortOutput}

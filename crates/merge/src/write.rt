@@ -40,22 +40,20 @@ fn put_new(n: usize, list: &[u8], place: u32, out: &mut [u8], at: usize) -> usiz
     ensures { λ r. ⌜ r ≡ length (linesOfAll (editAt n (now (list .entry)) place .new)) ⌝ }
     ensures { λ _. ⌜ now (out .exit) ≡ over (now (out .entry)) at (linesOfAll (editAt n (now (list .entry)) place .new)) ⌝ }
 {
-    let kind = runs::kind_at(list, place);
+    let kind = parts::edit_kind(list, place);
     if kind == 0 {
         return 0;
     }
-    let ids = change::behind_name(list, place);
-    let half = n / 2;
     let line = put_record(
         out,
         at,
-        parse::part::between(ids, 0, half),
-        places::name::edit_name(list, place),
+        parts::edit_id(n, list, place),
+        parts::edit_name(list, place),
     );
     if kind == 1 {
         return line;
     }
-    line + put_object(out, at + line, parse::part::between(ids, half, half + half))
+    line + put_object(out, at + line, parts::edit_peeled(n, list, place))
 }
 
 // An id in digits, a space, a name and LF.

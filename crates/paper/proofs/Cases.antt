@@ -15,7 +15,7 @@ use Rattle.iter.specs.Items.{sizeOf, itemsBehind, items}
 use Rattle.checks.specs.Check.{judgeBody, checkOf, checkAnswer}
 use Rattle.search.specs.Search.{probedOf, halve, searchOf}
 use Rattle.find.specs.Lookup.{lookupOf, lookupAnswer}
-use Rattle.change.specs.Change.{lengthAt}
+use Rattle.length.specs.Length.{lengthAt}
 use Rattle.loose.specs.Loose.{symbolicOf, looseOf, looseAnswer}
 use Rattle.paper.specs.Cases.{EveryCase}
 

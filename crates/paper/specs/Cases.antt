@@ -12,9 +12,9 @@ use Rattle.checks.specs.declared.Verdict.the-variants.{Clean, BadHeader, BadRec
 use Rattle.iter.specs.Handed.{Handed, good, error, handed}
 use Rattle.iter.specs.Items.{items}
 use Rattle.find.specs.Lookup.{lookupAnswer, lookupNumber}
-use Rattle.change.specs.declared.Length.{Length}
-use Rattle.change.specs.declared.Length.the-variants.{Of, Malformed}
-use Rattle.change.specs.Change.{lengthAt}
+use Rattle.length.specs.declared.Length.{Length}
+use Rattle.length.specs.declared.Length.the-variants.{Of, Malformed}
+use Rattle.length.specs.Length.{lengthAt}
 use Rattle.loose.specs.declared.Loose.the-variants.{Id, Symbolic, Unreadable, BadTarget}
 use Rattle.loose.specs.declared.LooseAnswer.{LooseAnswer}
 use Rattle.loose.specs.declared.LooseAnswer.the-variants as loosely

@@ -68,7 +68,7 @@ fn settle(
 {
     let mut j = from;
     while j < index.len() {
-        match compare::order::compare(name, places::name::edit_name(list, index[j])) {
+        match compare::order::compare(name, parts::edit_name(list, index[j])) {
             Order::Less => {
                 return j;
             }
@@ -126,7 +126,7 @@ pub fn is_still(list: &[u8], index: &[u32], marks: &[usize]) -> bool
 {
     let mut j = 0;
     while j < index.len() {
-        if kind_at(list, index[j]) != 0 {
+        if parts::edit_kind(list, index[j]) != 0 {
             return false;
         }
         if mark_at(marks, 2 * j) != mark_at(marks, 2 * j + 1) {
@@ -135,11 +135,4 @@ pub fn is_still(list: &[u8], index: &[u32], marks: &[usize]) -> bool
         j += 1;
     }
     true
-}
-
-// The kind of the edit at a place.
-pub fn kind_at(list: &[u8], place: u32) -> u8
-    ensures { λ r. ⌜ r ≡ getD (now (list .entry)) place 0 ⌝ }
-{
-    places::name::byte_at(list, place as usize)
 }

@@ -5,7 +5,7 @@ use Prim.Native.Nat.{ℕ, _+_, _-_, _/_, _≤_}
 use native.Mathlib.Nat.{sub-zero}
 use native.Mathlib.Omega.{arith}
 use lib.ListN.{length, getD, take, drop, length-append}
-use Rattle.change.specs.Change.{behindName}
+use Rattle.parts.specs.Parts.{editKind, behindName}
 use Rattle.put.specs.Put.{over}
 use Rattle.text.specs.Text.{hexText}
 use Rattle.put.proofs.Laws.{over-nil}
@@ -17,7 +17,7 @@ use Rattle.merge.proofs.write.put_new.Tie as tie
 
 -- ---- what is known at each place
 
-module _ (k : tie.After-kind-at) where
+module _ (k : tie.After-edit-kind) where
   abbrev start : tie.Start
   start = k .before .before .before
 
@@ -30,44 +30,34 @@ module _ (k : tie.After-kind-at) where
   abbrev place : ℕ
   place = start .args .place
 
-  abbrev half : ℕ
-  half = n / 2
-
-  abbrev ids : List ℕ
-  ids = behindName list place
-
   abbrev first : List ℕ
   first = firstLine n list place
 
   abbrev second : List ℕ
   second = secondLine n list place
 
-  kind-is : getD list place 0 ≡ k .kind-at .result
-  kind-is = sym (k .kind-at .ensures)
+  kind-is : editKind list place ≡ k .edit-kind .result
+  kind-is = sym (k .edit-kind .ensures)
 
--- the id and the name are cut out
+-- the id and the name are read
 module _ (q : tie.After-edit-name) where
-  abbrev kind : tie.After-kind-at
-  kind = q .before .before .before .before .before
+  abbrev kind : tie.After-edit-kind
+  kind = q .before .before .before .before
 
-  id-is : q .before .between .result .now ≡ take (half kind) (ids kind)
-  id-is =
-      let b = q .before .before .before .behind-name in
-      q .before .between .ensures ∙ ap (λ k. take k (b .result .now)) (sub-zero (half kind)) ∙ ap (take (half kind)) (b .ensures)
-
-  id-short : length (q .before .between .result .now) ≤ 64
-  id-short = omega (arith, start kind .pre, ap length id-is, length-part (half kind) 0 (ids kind) .0)
+  id-short : length (q .before .edit-id .result .now) ≤ 64
+  id-short =
+      omega (arith, start kind .pre, ap length (q .before .edit-id .ensures), length-part (n kind / 2) 0 (behindName (list kind) (place kind)) .0)
 
   name-short : length (q .edit-name .result .now) ≤ 1073741824
   name-short = omega (arith, start kind .pre, ap length (q .edit-name .ensures), length-name (list kind) (place kind))
 
 -- the first line is put
 module _ (r : tie.After-put-record) where
-  abbrev lined : tie.After-kind-at
+  abbrev lined : tie.After-edit-kind
   lined = kind (r .before)
 
-  first-is : recordLine (hexText (r .before .before .between .result .now)) (r .before .edit-name .result .now) ≡ first lined
-  first-is = λ i. recordLine (hexText (id-is (r .before) i)) (r .before .edit-name .ensures i)
+  first-is : recordLine (hexText (r .before .before .edit-id .result .now)) (r .before .edit-name .result .now) ≡ first lined
+  first-is = λ i. recordLine (hexText (r .before .before .edit-id .ensures i)) (r .before .edit-name .ensures i)
 
   first-length : r .put-record .result ≡ length (first lined)
   first-length = r .put-record .ensures .0 ∙ ap length first-is
@@ -75,33 +65,28 @@ module _ (r : tie.After-put-record) where
   first-short : r .put-record .result ≤ 1073741890
   first-short = omega (arith, start lined .pre, first-length, length-first (n lined) (list lined) (place lined))
 
--- the second id is cut out
-module _ (o : tie.After-between2) where
+-- the peeled id is read
+module _ (o : tie.After-edit-peeled) where
   abbrev before-it : tie.After-put-record
   before-it = o .before .before .before .before .before
 
-  abbrev its-kind : tie.After-kind-at
+  abbrev its-kind : tie.After-edit-kind
   its-kind = lined before-it
 
-  object-is : o .between2 .result .now ≡ take (half its-kind) (drop (half its-kind) (ids its-kind))
-  object-is =
-      let b = before-it .before .before .before .before .behind-name in
-      let once : half its-kind + half its-kind - half its-kind ≡ half its-kind = omega arith in
-      o .between2 .ensures ∙ ap (λ k. take k (drop (half its-kind) (b .result .now))) once ∙ ap (λ s. take (half its-kind) (drop (half its-kind) s)) (b .ensures)
-
-  object-short : length (o .between2 .result .now) ≤ 64
-  object-short = omega (arith, start its-kind .pre, ap length object-is, length-part (half its-kind) (half its-kind) (ids its-kind) .0)
+  peeled-short : length (o .edit-peeled .result .now) ≤ 64
+  peeled-short =
+      omega (arith, start its-kind .pre, ap length (o .edit-peeled .ensures), length-part (n its-kind / 2) (n its-kind / 2) (behindName (list its-kind) (place its-kind)) .0)
 
 -- the second line is put
 module _ (o : tie.After-put-object) where
-  second-is : objectLine (hexText (o .before .between2 .result .now)) ≡ second (its-kind (o .before))
-  second-is = ap (λ s. objectLine (hexText s)) (object-is (o .before))
+  second-is : objectLine (hexText (o .before .edit-peeled .result .now)) ≡ second (its-kind (o .before))
+  second-is = ap (λ s. objectLine (hexText s)) (o .before .edit-peeled .ensures)
 
   second-length : o .put-object .result ≡ length (second (its-kind (o .before)))
   second-length = o .put-object .ensures .0 ∙ ap length second-is
 
-kind-at-requires : tie.Need-kind-at-requires
-kind-at-requires c κs = search needs
+edit-kind-requires : tie.Need-edit-kind-requires
+edit-kind-requires c κs = search needs
 
 returns : tie.Need-returns
 returns c =
@@ -110,11 +95,8 @@ returns c =
     let none = lines-none (n k) (list k) (place k) (kind-is k ∙ c .if1 .taken) in
     (sym (ap length none), sym (ap (over (a .out .now) (a .at)) none ∙ over-nil (a .out .now) (a .at)))
 
-behind-name-requires : tie.Need-behind-name-requires
-behind-name-requires c κs = search needs
-
-between-requires : tie.Need-between-requires
-between-requires c κs = search needs
+edit-id-requires : tie.Need-edit-id-requires
+edit-id-requires c κs = search needs
 
 edit-name-requires : tie.Need-edit-name-requires
 edit-name-requires c κs = search needs
@@ -138,14 +120,11 @@ add-put-object c =
     let r = c .before .before .before .before in
     omega (arith, start (lined r) .pre, first-short r)
 
-add-between : tie.Need-add-between
-add-between c = search needs
-
-between-requires-2 : tie.Need-between-requires-2
-between-requires-2 c κs = search needs
+edit-peeled-requires : tie.Need-edit-peeled-requires
+edit-peeled-requires c κs = search needs
 
 put-object-requires : tie.Need-put-object-requires
-put-object-requires c κs = (omega (arith, start (its-kind c) .pre, first-short (before-it c)), object-short c)
+put-object-requires c κs = (omega (arith, start (its-kind c) .pre, first-short (before-it c)), peeled-short c)
 
 add-result : tie.Need-add-result
 add-result c =
@@ -162,7 +141,7 @@ returns-3 c =
     let r = before-it (o .before) in
     let k = lined r in
     let a = start k .args in
-    let not-none = r .before .before .before .before .before .if1 .left in
+    let not-none = r .before .before .before .before .if1 .left in
     let not-one = o .before .before .before .if2 .left in
     let two = sym (lines-two (n k) (list k) (place k) (λ e. not-none (sym (kind-is k) ∙ e)) (λ e. not-one (sym (kind-is k) ∙ e))) in (
       omega (arith, first-length r, second-length o, ap length two, length-append (first k) (second k)),
@@ -173,17 +152,15 @@ pub put-new-spec : {M : Type 1} → statement M
 put-new-spec =
     tie.close
     (tie.spec
-    kind-at-requires
+    edit-kind-requires
     returns
-    behind-name-requires
-    between-requires
+    edit-id-requires
     edit-name-requires
     put-record-requires
     same-length
     returns-2
     add-put-object
-    add-between
-    between-requires-2
+    edit-peeled-requires
     put-object-requires
     add-result
     same-length-2

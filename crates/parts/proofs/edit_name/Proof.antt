@@ -1,13 +1,13 @@
--- `change::behind_name` meets its contract: behind a length that can't be read stands nothing.
+-- `parts::edit_name` meets its contract: without a length there is no name.
 use mathlib.Core.Path.{sym, _∙_}
 use Prim.Native.Nat.{_+_}
 use native.Mathlib.Omega.{arith}
-use Rattle.parse.proofs.Slices.{rest-is}
-use Rattle.change.specs.Change.{behindName}
-use Rattle.change.proofs.Parts.{length-small}
+use Rattle.length.proofs.Groups.{length-small}
+use Rattle.parts.specs.Parts.{editName}
+use Rattle.parts.proofs.Parts.{part-is, name-there}
 use borrow.Author.Needs.{needs}
-use Rattle.change.proofs.behind_name.Statement.{statement}
-use Rattle.change.proofs.behind_name.Tie as tie
+use Rattle.parts.proofs.edit_name.Statement.{statement}
+use Rattle.parts.proofs.edit_name.Tie as tie
 
 add-length-at : tie.Need-add-length-at
 add-length-at c = search needs
@@ -31,7 +31,7 @@ part-result-end : tie.Need-part-result-end
 part-result-end c = search needs
 
 returns : tie.Need-returns
-unfolding behindName
+unfolding editName
 returns c = rw (sym (c .before .before .before .length-at .ensures) ∙ c .before .enum-told .given .1)
 
 add-between : tie.Need-add-between
@@ -44,15 +44,16 @@ between-requires : tie.Need-between-requires
 between-requires c κs = search needs
 
 returns-2 : tie.Need-returns-2
-unfolding behindName
 returns-2 c =
     let v = c .before .before in
     let l = v .before .before in
     let a = l .before .before .args in
-    rw (sym (l .length-at .ensures) ∙ v .value .given .1) (c .between .ensures ∙ rest-is (a .list .now) (v .value .given .0 .1 .0 + v .value .given .0 .0))
+    c .between .ensures
+    ∙ part-is (a .list .now) (v .value .given .0 .1 .0) (v .value .given .0 .0)
+    ∙ sym (name-there (a .list .now) (a .place) (sym (l .length-at .ensures) ∙ v .value .given .1))
 
-pub behind-name-spec : {M : Type 1} → statement M
-behind-name-spec =
+pub edit-name-spec : {M : Type 1} → statement M
+edit-name-spec =
     tie.close
     (tie.spec
     add-length-at

@@ -1,9 +1,9 @@
 -- Document 01's worked examples of name lengths.
 use mathlib.Core.List.{List, [], _∷_}
 use Prim.Native.Nat.{ℕ}
-use Rattle.change.specs.declared.Length.{Length}
-use Rattle.change.specs.declared.Length.the-variants.{Of, Malformed}
-use Rattle.change.specs.Change.{lengthAt}
+use Rattle.length.specs.declared.Length.{Length}
+use Rattle.length.specs.declared.Length.the-variants.{Of, Malformed}
+use Rattle.length.specs.Length.{lengthAt}
 
 -- some bytes, and the length that they begin with
 pub record Case : Type 0 where

@@ -1,13 +1,13 @@
--- `change::length_at` meets its contract.
+-- `length::length_at` meets its contract.
 use mathlib.Core.Path.{_≡_, sym, ap, _∙_}
 use Prim.Native.Nat.{_+_, _*_, _%_, _≤_}
 use native.Mathlib.Omega.{arith}
 use lib.ListN.{getD, List·getD-eq-default}
-use Rattle.change.specs.declared.Length.the-variants.{Of}
-use Rattle.change.proofs.Changes.{no-group, one-group, second-zero, third-group, two-groups}
+use Rattle.length.specs.declared.Length.the-variants.{Of}
+use Rattle.length.proofs.Groups.{no-group, one-group, second-zero, third-group, two-groups}
 use borrow.Author.Needs.{needs}
-use Rattle.change.proofs.length_at.Statement.{statement}
-use Rattle.change.proofs.length_at.Tie as tie
+use Rattle.length.proofs.length_at.Statement.{statement}
+use Rattle.length.proofs.length_at.Tie as tie
 
 returns : tie.Need-returns
 returns c = sym (no-group (c .before .before .args .s .now) (c .before .before .args .at) (c .if1 .taken))
