@@ -22,8 +22,8 @@ use Rattle.parts.specs.Parts.{editKind, editName, behindName}
 use Rattle.parts.proofs.Parts.{name-there, behind-there}
 use Rattle.change.specs.Change.{idBytes, changeOf}
 use Rattle.edit.specs.List.{Listed, all, malformed, badName, tooMany, onto, listedBy, editsFrom, editsOf}
-use Rattle.text.specs.Text.{hexText}
-use Rattle.text.proofs.Laws.{length-hex, hex-is-hex}
+use Rattle.hex.specs.Hex.{hexText}
+use Rattle.hex.proofs.Laws.{length-hex, hex-is-hex}
 use Rattle.merge.specs.Entry.{newOf, editAt}
 use Rattle.change.proofs.Parts.{Whole, good-whole}
 use Rattle.merge.proofs.Entries.{Digits, AllOf}
@@ -88,12 +88,12 @@ module _ (n half : ℕ) (even : n ≡ 2 * half) where
       → ((i : ℕ) → getD ids i 0 < 256) → AllOf n name (newOf kind name (take (n / 2) ids) (take (n / 2) (drop (n / 2) ids)))
   new-of zero name ids k v h b = tt
   new-of (suc zero) name ids k v h b =
-      (refl, record { id = raw-digits ids (omega arith) b; name = v; object = tt }, refl)
+      (refl, record { id = raw-digits ids (omega arith) b; name = v; peeled = tt }, refl)
   new-of (suc (suc zero)) name ids k v h b =
       let m : n / 2 ≡ half = omega arith in
       let l = length-drop (n / 2) ids in
       let second = raw-digits (drop (n / 2) ids) (omega arith) (λ i. rw (getD-drop (n / 2) ids i 0) (b (n / 2 + i))) in
-      (refl, record { id = raw-digits ids (omega arith) b; name = v; object = second }, refl)
+      (refl, record { id = raw-digits ids (omega arith) b; name = v; peeled = second }, refl)
   new-of (suc (suc (suc kind))) name ids k v h b = absurd (omega arith)
 
 -- ---- the edit at a place

@@ -18,7 +18,7 @@ use Rattle.sort.specs.Sorted.{sorted}
 use Rattle.sort.specs.Twin.{firstTwin}
 use Rattle.change.specs.Change.{changeOf, namedChange}
 use Rattle.edit.specs.List.{editsFrom, editsOf, twinsOf, preparedOf, indexAfter}
-use Rattle.text.specs.Text.{hexDigit}
+use Rattle.hex.specs.Hex.{hexDigit}
 use Rattle.merge.specs.Merge.{newFile, finished, oldEntries, judged, editsInOrder, mergeOf, mergeAnswer, outputAfter, indexAnswer}
 use Rattle.merge.specs.Examples.{allComputed, lengths, cases, numbered, longInputs}
 

@@ -23,7 +23,8 @@ use Rattle.checks.proofs.Passes.{judged}
 use Rattle.parts.specs.Parts.{editKind, editName, editId, editPeeled}
 use Rattle.put.specs.Put.{over}
 use Rattle.put.proofs.Laws.{over-fits}
-use Rattle.merge.specs.Entry.{Entry, newOf, entryOf, entriesOf, editsAt}
+use Rattle.lines.specs.Lines.{Entry}
+use Rattle.merge.specs.Entry.{newOf, entryOf, entriesOf, editsAt}
 use Rattle.merge.specs.Merge.{isNone, hasName, isIdle}
 use Rattle.runs.specs.Runs.{Run, runsOf, atEnd, marksOf, isStill}
 use Rattle.merge.specs.Splice.{Above, Rising}

@@ -111,7 +111,7 @@ fn mark(marks: &mut [usize], at: usize, from: usize, to: usize)
 }
 
 // The mark at a place, or 0 behind them all.
-fn mark_at(marks: &[usize], at: usize) -> usize
+pub fn mark_at(marks: &[usize], at: usize) -> usize
     ensures { λ r. ⌜ r ≡ getD (now (marks .entry)) at 0 ⌝ }
 {
     if at < marks.len() {
