@@ -20,8 +20,8 @@ pub fn put_record(out: &mut [u8], at: usize, id: &[u8], name: &[u8]) -> usize
 {
     let space = put::hex(out, at, id);
     let from = put::byte(out, space, b' ');
-    let end = put::bytes(out, from, name);
-    put::byte(out, end, b'\n')
+    let behind_name = put::bytes(out, from, name);
+    put::byte(out, behind_name, b'\n')
 }
 
 // `^`, the peeled id in digits and LF.
@@ -30,6 +30,6 @@ pub fn put_peeled(out: &mut [u8], at: usize, id: &[u8]) -> usize
         × (r ≡ placeBehind at (length (peeledLine (hexText (now (id .entry)))))) ⌝ }
 {
     let from = put::byte(out, at, b'^');
-    let end = put::hex(out, from, id);
-    put::byte(out, end, b'\n')
+    let behind_id = put::hex(out, from, id);
+    put::byte(out, behind_id, b'\n')
 }

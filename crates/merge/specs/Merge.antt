@@ -51,7 +51,7 @@ isIdle olds (e ∷ es) = isNone (e .new) && (not (hasName (e .name) olds) && isI
 
 -- ---- the new file
 
--- the records under the header; it is chosen here
+-- "Success: the 46 bytes [..] with LF, then the old records overridden by the edits, in name order": this is where the header is chosen
 unfoldable pub newFile : List Entry → List Edit → List ℕ
 newFile olds edits = fileOf headerLine (overridden olds edits)
 

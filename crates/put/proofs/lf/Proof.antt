@@ -1,5 +1,5 @@
 -- `put::lf` meets its contract: what is left of src, put behind what is put already, makes what is wanted.
-use mathlib.Core.Path.{_≡_, refl, sym, _∙_}
+use mathlib.Core.Path.{_≡_, refl, _∙_}
 use Prim.Native.Nat.{_-_, _≤_}
 use native.Mathlib.Omega.{arith}
 use lib.ListN.{length, drop}

@@ -1,9 +1,9 @@
 -- `merge::write::write` meets its contract: what is left of the new file, put where the writing has come to, makes what is wanted.
-use mathlib.Core.Path.{_≡_, refl, sym, ap, _∙_}
+use mathlib.Core.Path.{_≡_, sym, ap, _∙_}
 use mathlib.Core.List.{List}
 use Prim.Native.Nat.{ℕ, _*_, _-_, _≤_, _<_}
 use native.Mathlib.Omega.{arith}
-use lib.ListN.{length, getD, take, drop}
+use lib.ListN.{length, getD}
 use Rattle.parse.proofs.Slices.{rest-is}
 use Rattle.put.specs.Put.{over, placeBehind}
 use Rattle.put.specs.Cr.{withoutCR}
