@@ -61,7 +61,8 @@ use Rattle.edit.specs.declared.list.Prepared.the-variants as prepared
 use Rattle.edit.specs.List.{Listed, all, bad, editsOf, inOrder, twinsBy, twinsOf, preparedBy, preparedOf, indexBy, indexAfter, listFaultNumber}
 use Rattle.merge.specs.declared.Merged.{Merged}
 use Rattle.merge.specs.declared.Merged.the-variants.{Done, UnknownKind, TooLarge, BadList, ShortIndex, Twins, Refused, NothingToDo, NoRecord, ShortOutput}
-use Rattle.merge.specs.Entry.{Entry, Edit}
+use Rattle.lines.specs.Lines.{Entry}
+use Rattle.merge.specs.Entry.{Edit}
 use Rattle.merge.specs.Merge as merged
 use Rattle.merge.specs.Merge.{overridden, isNone, isIdle, newFile, oldEntries, editsInOrder, finished, judgedBy, judged, mergeOf, mergeAnswer, mergeNumber, outputBy, outputAfter, indexAnswer}
 use Rattle.demands.specs.Refused.{AnsweredBy, Numbered, beforeEleven, Filled, Leaves, Demand1}
