@@ -2,17 +2,7 @@
 mod common;
 
 use common::{Dir, Ran};
-use std::path::Path;
 use std::process::{Command, Stdio};
-
-/// Builds shim.c, which stops the program at a given call.
-fn shim(dir: &Dir) -> String {
-    let shim = dir.path("shim.so");
-    let source = Path::new(env!("CARGO_MANIFEST_DIR")).join("tests/shim.c");
-    let built = Command::new("cc").args(["-shared", "-fPIC", "-O1", "-Wall", "-Werror", "-o", &shim]).arg(source).status();
-    assert!(built.expect("a C compiler, cc").success());
-    shim
-}
 
 struct Merge {
     dir: Dir,
@@ -26,7 +16,7 @@ impl Merge {
     /// Of a file that takes several writes or of a small one; of edits that leave records or that leave none.
     fn new(records: usize, is_last: bool) -> Merge {
         let dir = Dir::new();
-        let shim = shim(&dir);
+        let shim = common::shim(&dir, "shim.c");
         let lines = |digit: &str| (0..records).map(|i| format!("{} refs/s/{i:07}\n", digit.repeat(40))).collect::<String>();
         let old = lines("1");
         let edits: String = if is_last {
@@ -66,14 +56,16 @@ impl Merge {
         now
     }
 
-    /// Once more, without a shim, as the person at night does it.
-    fn again(&self, when: &str) {
+    /// Once more, without a shim, as the person at night does it. (That a lock which was left is refused is seen once: it is waited for.)
+    fn again(&self, when: &str, is_lock_tried: bool) {
         let refs = self.dir.path("refs");
         let args = ["merge", &refs, &self.dir.path("edits"), "-o", &refs];
         if self.dir.has("refs.lock") {
-            let before = self.stands(when);
-            common::run(&args, b"").is(2, "", "refs.lock is there");
-            assert_eq!(self.stands(when), before);
+            if is_lock_tried {
+                let before = self.stands(when);
+                common::run(&args, b"").is(2, "", "refs.lock is there");
+                assert_eq!(self.stands(when), before);
+            }
             std::fs::remove_file(self.dir.path("refs.lock")).unwrap();
         }
         // a merge that removed the file has nothing to do now
@@ -94,7 +86,7 @@ fn the_calls_stand_in_the_order_that_keeps_a_file_whole() {
     let [small, large, last] = merges();
     let order = |merge: &Merge| {
         let (ran, mut log) = merge.run(0, "", 0);
-        ran.is(0, "", if merge.new.is_none() { "number 14" } else { "" });
+        ran.is(0, "", if merge.new.is_none() { "number 14" } else { "the new file has " });
         assert!(merge.stands("done") == merge.new);
         log.dedup();
         log
@@ -105,6 +97,8 @@ fn the_calls_stand_in_the_order_that_keeps_a_file_whole() {
     assert!(large.run(0, "", 0).1.len() >= replaced.len() + 3, "several writes");
     assert_eq!(order(&last), ["create", "unlink file", "fsync directory", "unlink lock"]);
 }
+
+const KILL: i32 = 9;
 
 #[test]
 fn killed_at_each_call() {
@@ -117,11 +111,33 @@ fn killed_at_each_call() {
                 if how == "half" && log.len() == calls {
                     continue; // that call was no write
                 }
-                assert_eq!(ran.status, -1, "{when}: {ran:?}");
+                assert_eq!(ran.status, -KILL, "{when}: {ran:?}");
                 let now = merge.stands(&when);
                 let is_done = log.iter().any(|call| call == "rename" || call == "unlink file");
                 assert!(now.as_ref() == if is_done { merge.new.as_ref() } else { Some(&merge.old) }, "{when}: {log:?}");
-                merge.again(&when);
+                merge.again(&when, at == 2 && how == "before");
+            }
+        }
+    }
+}
+
+/// A signal that someone sends ends the program by that signal, and takes the lock away, whenever it comes.
+#[test]
+fn signalled_at_each_call() {
+    let [hup, int, term] = [1, 2, 15];
+    for merge in merges() {
+        let calls = merge.run(0, "", 0).1.len();
+        for (signal, how) in [(hup, "signal"), (int, "signalled"), (term, "signal"), (term, "signalled")] {
+            for at in 1..=calls {
+                let when = format!("{how} {signal} at call {at} of {calls}");
+                let (ran, log) = merge.run(at, how, signal);
+                // The very last call gives the lock back: the signal may come when all is done.
+                assert_eq!(ran.status, -signal, "{when}: {ran:?}");
+                assert!(!merge.dir.has("refs.lock"), "{when}: the lock was left: {log:?}");
+                let now = merge.stands(&when);
+                let is_done = log.iter().any(|call| call == "rename" || call == "unlink file");
+                assert!(now.as_ref() == if is_done { merge.new.as_ref() } else { Some(&merge.old) }, "{when}: {log:?}");
+                merge.again(&when, false);
             }
         }
     }
@@ -148,7 +164,7 @@ fn failed_at_each_call() {
                     assert!(ran.err.contains("os error"), "{when}: {ran:?}");
                     assert!(!merge.dir.has("refs.lock"), "{when}: the lock was left");
                 }
-                merge.again(&when);
+                merge.again(&when, false);
             }
         }
     }
@@ -158,7 +174,7 @@ fn failed_at_each_call() {
 fn a_write_that_does_less_is_gone_on_with() {
     let [small, _, _] = merges();
     let (ran, log) = small.run(3, "short", 0);
-    ran.is(0, "", "");
+    ran.is(0, "", "the new file has 3 records");
     assert_eq!(log.iter().filter(|call| *call == "write").count(), 2, "{log:?}");
     assert!(small.stands("short write") == small.new);
 }

@@ -1,7 +1,7 @@
 //! Every command of the program, and every exit status.
 mod common;
 
-use common::{Dir, Ran};
+use common::{id, Dir, Ran, HEADER};
 use std::io::Write;
 use std::process::{Command, Stdio};
 
@@ -16,10 +16,6 @@ fn run(args: &[&str]) -> Ran {
     common::run(args, b"")
 }
 
-fn id(digit: char) -> String {
-    digit.to_string().repeat(40)
-}
-
 #[test]
 fn usage() {
     let dir = Dir::new();
@@ -30,7 +26,6 @@ fn usage() {
         &["find", NIGHT, E3],
         &["check"],
         &["check", NIGHT, NIGHT],
-        &["check", "--sha256", NIGHT],
         &["lookup", NIGHT],
         &["list"],
         &["list", NIGHT, "a", "b"],
@@ -59,19 +54,18 @@ fn usage() {
 #[test]
 fn check() {
     run(&["check", NIGHT]).is(0, "0 passed: 28 records\n", "");
-    run(&["--sha256", "check", NIGHT]).is(2, "", "line 2: number 4: ");
     run(&["check", DAMAGED]).is(2, "", "damaged, line 15: number 4: a record can't be read; it starts at byte 891. Do not send.");
 
     let dir = Dir::new();
-    run(&["check", &dir.file("empty", b"")]).is(0, "0 passed: 0 records\n", "");
+    run(&["check", &dir.file("bare", HEADER.as_bytes())]).is(0, "0 passed: 0 records\n", "");
     run(&["check", &dir.file("header", b"# no header\n")]).is(2, "", "line 1: number 2: ");
     let (a, b) = (format!("{} refs/s/a\n", id('1')), format!("{} refs/s/b\r\n^{}\r\n", id('2'), id('3')));
     run(&["check", &dir.file("crlf", format!("{a}{b}").as_bytes())]).is(0, "0 passed: 2 records\n", "");
     run(&["check", &dir.file("mixed", format!("{b}{a}").as_bytes())]).is(2, "", "line 3: number 6: ");
     run(&["check", &dir.file("cut", &a.as_bytes()[..49])]).is(2, "", "number 4: ");
     let long = format!("{} refs/s/a\n", "f".repeat(64));
-    run(&["--sha256", "check", &dir.file("long", long.as_bytes())]).is(0, "0 passed: 1 records\n", "");
-    common::run(&["check", "-"], a.as_bytes()).is(0, "0 passed: 1 records\n", "");
+    run(&["--sha256", "check", &dir.file("long", long.as_bytes())]).is(0, "0 passed: 1 record\n", "");
+    common::run(&["check", "-"], a.as_bytes()).is(0, "0 passed: 1 record\n", "");
 }
 
 #[test]
@@ -107,7 +101,7 @@ fn lookup() {
     let absent = format!("5 absent {E4}\n");
     run(&["lookup", NIGHT, E3]).is(0, &charted, "");
     run(&["lookup", NIGHT, E4]).is(1, &absent, "");
-    run(&["lookup", NIGHT, "refs/sent//e4"]).is(2, "", "no answer for refs/sent//e4: number 3: ");
+    run(&["lookup", NIGHT, "refs/sent//e4"]).is(2, "", "no answer for 'refs/sent//e4': number 3: ");
     run(&["lookup", NIGHT, ""]).is(2, "", "number 3: ");
     // what stands elsewhere is still charted, and what can't be read is never absent
     run(&["lookup", DAMAGED, E3]).is(0, &charted, "");
@@ -118,12 +112,12 @@ fn lookup() {
     run(&["lookup", NIGHT, E3, E4]).is(1, &format!("{charted}{absent}"), "");
     run(&["lookup", NIGHT, E4, E3]).is(1, &format!("{absent}{charted}"), "");
     run(&["lookup", NIGHT, "x", E4, E3]).is(2, &format!("{absent}{charted}"), "number 3: ");
-    run(&["lookup", DAMAGED, E3, E4, E3]).is(2, &format!("{charted}{charted}"), "no answer for refs/sent/ward4/o118/e4: number 4: ");
+    run(&["lookup", DAMAGED, E3, E4, E3]).is(2, &format!("{charted}{charted}"), "no answer for 'refs/sent/ward4/o118/e4': number 4: ");
 
     let dir = Dir::new();
     let tag = dir.file("tag", format!("{} refs/s/a\n^{}\n", id('1'), id('2')).as_bytes());
     run(&["lookup", &tag, "refs/s/a"]).is(0, &format!("0 charted refs/s/a {} byte 0 peeled {}\n", id('1'), id('2')), "");
-    run(&["lookup", &dir.file("empty", b""), E3]).is(1, &format!("5 absent {E3}\n"), "");
+    run(&["lookup", &dir.file("bare", HEADER.as_bytes()), E3]).is(1, &format!("5 absent {E3}\n"), "");
 }
 
 #[test]
@@ -195,10 +189,7 @@ fn loose() {
     run(&["loose", &dir.file("ref", b"ref: refs/heads/main\n")]).is(0, "0 symbolic refs/heads/main\n", "");
     run(&["loose", &dir.file("empty", b"")]).is(2, "", "number 15: ");
     run(&["loose", &dir.file("target", b"ref: x\n")]).is(2, "", "number 16: ");
-    run(&["--sha256", "loose", &dir.path("id")]).is(2, "", "number 15: ");
 }
-
-const HEADER: &str = "# pack-refs with: peeled fully-peeled sorted \n";
 
 #[test]
 fn merge() {
@@ -211,17 +202,18 @@ fn merge() {
             .as_bytes(),
     );
     let new = format!("{HEADER}{} refs/s/a\n{} refs/s/b\n{} refs/s/d\n^{}\n", id('A'), id('b'), id('5'), id('6'));
-    run(&["merge", &old, &edits]).is(0, &new, "");
-    common::run(&["merge", "-", &edits], format!("{a}{c}").as_bytes()).is(0, &new, "");
-    common::run(&["merge", &old, "-"], &dir.read("edits")).is(0, &new, "");
+    let three = "packed-refs: the new file has 3 records\n";
+    run(&["merge", &old, &edits]).is(0, &new, three);
+    common::run(&["merge", "-", &edits], format!("{a}{c}").as_bytes()).is(0, &new, three);
+    common::run(&["merge", &old, "-"], &dir.read("edits")).is(0, &new, three);
     // to a file: another one, one beside, itself
-    run(&["merge", &old, &edits, "-o", &dir.path("new")]).is(0, "", "");
+    run(&["merge", &old, &edits, "-o", &dir.path("new")]).is(0, "", three);
     assert_eq!(dir.read("new"), new.as_bytes());
-    run(&["merge", "-o", &old, &old, &edits]).is(0, "", "");
+    run(&["merge", "-o", &old, &old, &edits]).is(0, "", three);
     assert_eq!(dir.read("old"), new.as_bytes());
     assert!(!dir.has("old.lock") && !dir.has("new.lock"));
     // again: the updates are updates
-    run(&["merge", &old, &edits, "-o", &old]).is(0, "", "");
+    run(&["merge", &old, &edits, "-o", &old]).is(0, "", three);
     assert_eq!(dir.read("old"), new.as_bytes());
     run(&["check", &old]).is(0, "0 passed: 3 records\n", "");
 
@@ -240,16 +232,15 @@ fn merge() {
     // no old file
     let first = dir.file("first", format!("update refs/s/a {}\n", id('1')).as_bytes());
     let one = format!("{HEADER}{} refs/s/a\n", id('1'));
-    run(&["merge", &old, &first]).is(0, &one, "old is not there: it counts as empty");
-    run(&["merge", &old, &none]).is(1, "", "number 13: ");
-    run(&["merge", &old, &first, "-o", &old]).is(0, "", "it counts as empty");
+    run(&["merge", &old, &none, "-o", &old]).is(1, "", "number 13: ");
+    run(&["merge", &old, &first, "-o", &old]).is(0, "", "old is not there, and neither is the new file: a table begins");
     assert_eq!(dir.read("old"), one.as_bytes());
     // a slip of the keyboard must not cost the records that are there
     run(&["merge", &dir.path("odl"), &first, "-o", &old]).is(2, "", "its records would be lost");
     assert_eq!(dir.read("old"), one.as_bytes());
     // the example of the README
     let merged = run(&["merge", NIGHT, EDITS]);
-    assert_eq!((merged.status, merged.err.as_str()), (0, ""));
+    assert_eq!((merged.status, merged.err.as_str()), (0, "packed-refs: the new file has 28 records\n"));
     common::run(&["check", "-"], merged.out.as_bytes()).is(0, "0 passed: 28 records\n", "");
 }
 
@@ -261,7 +252,7 @@ fn merges_that_are_refused_write_nothing() {
     let long = format!("delete a/{}\n", "b".repeat(4095));
     for (edits, words) in [
         ("update refs/s/a\n", "line 1: number 7: "),
-        ("\nupdate refs/s/a 11\n", "line 2: number 7: an id is not 40 hex digits"),
+        ("\nupdate refs/s/a 11\n", "line 2: number 7: '11' is neither 40 hex digits nor 64"),
         (&format!("update refs/s/a {} {}\n", id('1'), id('g')), "line 1: number 7: "),
         ("delete refs/s/a refs/s/b\n", "line 1: number 7: "),
         ("remove refs/s/a\n", "line 1: number 7: "),
@@ -296,20 +287,20 @@ fn where_a_merge_writes() {
     let list = dir.file("edits", format!("update refs/s/a {}\n", id('1')).as_bytes());
     let new = format!("{HEADER}{} refs/s/a\n", id('1'));
     // someone else's lock: nothing is read or written
-    let old = dir.file("old", b"");
+    let old = dir.file("old", HEADER.as_bytes());
     dir.file("old.lock", b"theirs");
     run(&["merge", &old, &list, "-o", &old]).is(2, "", "old.lock is there: another program is writing");
-    assert_eq!((dir.read("old"), dir.read("old.lock")), (vec![], b"theirs".to_vec()));
+    assert_eq!((dir.read("old"), dir.read("old.lock")), (HEADER.as_bytes().to_vec(), b"theirs".to_vec()));
     std::fs::remove_file(dir.path("old.lock")).unwrap();
     // the rights stay
     std::fs::set_permissions(&old, PermissionsExt::from_mode(0o640)).unwrap();
-    run(&["merge", &old, &list, "-o", &old]).is(0, "", "");
+    run(&["merge", &old, &list, "-o", &old]).is(0, "", "the new file has 1 record");
     assert_eq!(std::fs::metadata(&old).unwrap().permissions().mode() & 0o777, 0o640);
     // a link stays a link
     let link = dir.path("link");
     symlink("old", &link).unwrap();
-    dir.file("old", b"");
-    run(&["merge", &link, &list, "-o", &link]).is(0, "", "");
+    dir.file("old", HEADER.as_bytes());
+    run(&["merge", &link, &list, "-o", &link]).is(0, "", "the new file has 1 record");
     assert_eq!(dir.read("old"), new.as_bytes());
     assert!(std::fs::symlink_metadata(&link).unwrap().is_symlink());
     // what is no file is not replaced
@@ -343,7 +334,7 @@ fn output_that_cannot_be_written_is_no_answer() {
     drop(ran.stdout.take());
     ran.stdin.take().unwrap().write_all(&std::fs::read(NIGHT).unwrap()).unwrap();
     let ran = ran.wait_with_output().unwrap();
-    assert_eq!((ran.status.code(), ran.stderr.as_slice()), (Some(2), &b""[..]));
+    assert_eq!((ran.status.code(), ran.stderr.as_slice()), (Some(0), &b""[..]));
     let ran = Command::new(common::PROGRAM).args(["lookup", DAMAGED, E4]).stderr(full()).status().unwrap();
     assert_eq!(ran.code(), Some(2));
 }

@@ -1,7 +1,8 @@
 /* Stands between the program and the system in a test, by LD_PRELOAD: at the SHIM_AT-th call that changes a file it stops the program, or fails.
  *
  *   SHIM_HOW  before: killed before the call; after: killed behind it; half: a write is done by half, then killed;
- *             fail: the call fails with SHIM_ERRNO; short: a write does one byte, and the program goes on
+ *             fail: the call fails with SHIM_ERRNO; short: a write does one byte, and the program goes on;
+ *             signal: the signal SHIM_ERRNO comes before the call; signalled: it comes behind it
  *   SHIM_LOG  takes a line for each such call that was made
  */
 #define _GNU_SOURCE
@@ -40,6 +41,7 @@ static void note(const char *what) {
 static int enter(void) {
     calls++;
     if (is("before")) die();
+    if (is("signal")) syscall(SYS_kill, getpid(), number);
     if (is("fail")) {
         errno = number;
         return 1;
@@ -50,6 +52,7 @@ static int enter(void) {
 static long leave(const char *what, long r) {
     if (r >= 0) note(what);
     if (is("after")) die();
+    if (is("signalled")) syscall(SYS_kill, getpid(), number);
     return r;
 }
 

@@ -1,50 +1,25 @@
--- A length and an edit by their parts: what each is once a part can't be read, or once all of them can.
+-- An edit by its parts: what it is once a part can't be read, or once all of them can.
 use mathlib.Core.Path.{_≡_, refl}
 use mathlib.Core.Bool.{Bool, true, false, and-false, or-true}
 use mathlib.Core.List.{List}
-use Prim.Native.Nat.{ℕ, zero, suc, _+_, _-_, _*_, _/_, _%_, _≤_, _<_}
+use Prim.Native.Nat.{ℕ, zero, suc, _+_, _-_, _/_, _≤_, _<_}
 use native.Mathlib.Nat.{zero-mul}
 use native.Mathlib.Omega.{arith}
 use lib.Dec.{leb}
-use lib.ListN.{getD, length, take, drop}
+use lib.ListN.{length}
 use borrow.Author.Tests.{lt-ltb, le-ltb, le-leb, lt-leb, eq-eqb, ne-eqb, leb-true, leb-false}
 use Rattle.class.specs.Class.{Classes}
 use Rattle.name.specs.Name.{validName}
-use Rattle.change.specs.declared.Length.the-variants as long
+use Rattle.length.specs.declared.Length.the-variants as long
+use Rattle.length.specs.Length.{lengthAt}
+use Rattle.parts.specs.Parts.{editKind, editName}
 use Rattle.change.specs.declared.Reading.the-variants.{Good, Bad}
 use Rattle.change.specs.declared.Fault.the-variants.{Malformed, BadName}
-use Rattle.change.specs.Change.{lengthAt, idBytes, namedChange, changeOf}
-
-module _ (s : List ℕ) (at : ℕ) where
-  pub no-group : length s ≤ at → lengthAt s at ≡ long.Malformed
-  unfolding lengthAt
-  no-group h = rw (le-ltb at (length s) h)
-
-  module _ (inside : at < length s) where
-    pub one-group : getD s at 0 < 128 → lengthAt s at ≡ long.Of (getD s at 0) (at + 1)
-    unfolding lengthAt
-    one-group h = rw (lt-ltb at (length s) inside, lt-ltb (getD s at 0) 128 h)
-
-    module _ (more : 128 ≤ getD s at 0) where
-      pub second-zero : getD s (at + 1) 0 ≡ 0 → lengthAt s at ≡ long.Malformed
-      unfolding lengthAt
-      second-zero h = rw (lt-ltb at (length s) inside, le-ltb (getD s at 0) 128 more, h)
-
-      pub third-group : 128 ≤ getD s (at + 1) 0 → lengthAt s at ≡ long.Malformed
-      unfolding lengthAt
-      third-group h = rw (lt-ltb at (length s) inside, le-ltb (getD s at 0) 128 more, le-ltb (getD s (at + 1) 0) 128 h, and-false)
-
-      pub two-groups : (getD s (at + 1) 0 ≡ 0 → ⊥) → getD s (at + 1) 0 < 128
-          → lengthAt s at ≡ long.Of (getD s at 0 % 128 + 128 * getD s (at + 1) 0) (at + 1 + 1)
-      unfolding lengthAt
-      two-groups z h =
-          rw (lt-ltb at (length s) inside, le-ltb (getD s at 0) 128 more, lt-ltb 0 (getD s (at + 1) 0) (omega arith), lt-ltb (getD s (at + 1) 0) 128 h)
-
--- ---- an edit
+use Rattle.change.specs.Change.{idBytes, namedChange, changeOf}
 
 module _ (byte : Classes) (n : ℕ) (s : List ℕ) where
   abbrev kind : ℕ
-  kind = getD s 0 0
+  kind = editKind s 0
 
   pub nothing : length s ≡ 0 → changeOf byte n s ≡ Bad Malformed
   unfolding changeOf
@@ -80,11 +55,11 @@ module _ (byte : Classes) (s : List ℕ) (k from len ids : ℕ) where
     cut-short h = rw (ne-eqb len 0 not-empty, le-ltb 4096 len short, h)
 
     module _ (whole : leb (from + len + ids) (length s) ≡ true) where
-      pub bad-name : validName byte (take len (drop from s)) ≡ false → namedChange byte s k from len ids ≡ Bad BadName
+      pub bad-name : validName byte (editName s 0) ≡ false → namedChange byte s k from len ids ≡ Bad BadName
       unfolding namedChange
       bad-name h = rw (ne-eqb len 0 not-empty, le-ltb 4096 len short, whole, h)
 
-      pub good-name : validName byte (take len (drop from s)) ≡ true
+      pub good-name : validName byte (editName s 0) ≡ true
           → namedChange byte s k from len ids ≡ Good (record { kind = k; from = from; name = len; size = from + len + ids })
       unfolding namedChange
       good-name h = rw (ne-eqb len 0 not-empty, le-ltb 4096 len short, whole, h)

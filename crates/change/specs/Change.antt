@@ -1,33 +1,18 @@
 -- One edit at the front of the bytes s, with ids of n digits.
 use mathlib.Core.Bool.{_&&_, _||_}
-use mathlib.Core.List.{List, []}
-use Prim.Native.Nat.{ℕ, _+_, _*_, _/_, _%_}
+use mathlib.Core.List.{List}
+use Prim.Native.Nat.{ℕ, _+_, _*_, _/_}
 use lib.Dec.{leb, ltb, eqb}
-use lib.ListN.{getD, length, take, drop}
+use lib.ListN.{length}
 use Rattle.parse.specs.Choice.{if}
 use Rattle.class.specs.Class.{Classes}
 use Rattle.name.specs.Name.{validName}
-use Rattle.change.specs.declared.Length.{Length}
-use Rattle.change.specs.declared.Length.the-variants as long
+use Rattle.length.specs.Length.{lengthAt, measured}
+use Rattle.parts.specs.Parts.{editKind, editName}
 use Rattle.change.specs.declared.Reading.{Reading}
 use Rattle.change.specs.declared.Reading.the-variants.{Good, Bad}
 use Rattle.change.specs.declared.Fault.{Fault}
 use Rattle.change.specs.declared.Fault.the-variants.{Malformed, BadName}
-
--- "Name length in groups of seven bits, low group first, top bit set on all but the last; one or two groups, second not zero."
-unfoldable pub lengthAt : List ℕ → ℕ → Length
-lengthAt s at =
-    let low = getD s at 0 in
-    let high = getD s (at + 1) 0 in
-    if (ltb at (length s))
-    (if (ltb low 128)
-    (long.Of low (at + 1))
-    (if (ltb 0 high && ltb high 128) (long.Of (low % 128 + 128 * high) (at + 1 + 1)) long.Malformed))
-    long.Malformed
-
-abbrev pub measured {ℓ} : {A : Type ℓ} → Length → (ℕ → ℕ → A) → A → A
-measured (long.Of value next) f other = f value next
-measured long.Malformed f other = other
 
 -- "For 1 and 2 the id in raw bytes (20 or 32), for 2 the peeled id": as many ids as the kind's number, each of half as many bytes as digits
 abbrev pub idBytes : ℕ → ℕ → ℕ
@@ -39,14 +24,14 @@ unfoldable pub namedChange : Classes → List ℕ → ℕ → ℕ → ℕ → �
 namedChange byte s kind from len ids =
     if (eqb len 0 || ltb 4096 len) (Bad BadName)
     (if (leb (from + len + ids) (length s))
-    (if (validName byte (take len (drop from s))) (Good (record { kind = kind; from = from; name = len; size = from + len + ids })) (Bad BadName))
+    (if (validName byte (editName s 0)) (Good (record { kind = kind; from = from; name = len; size = from + len + ids })) (Bad BadName))
     (Bad Malformed))
 
 -- "In each edit: kind (7), length form, an unfinished length included (7), length 0 or over 4,096 (8), cut short anywhere behind it (7),
 -- name rules (8)." "Kind byte: 0 delete, 1 update, 2 update with peeled id."
 unfoldable pub changeOf : Classes → ℕ → List ℕ → Reading
 changeOf byte n s =
-    let kind = getD s 0 0 in
+    let kind = editKind s 0 in
     if (ltb 0 (length s) && leb kind 2)
     (measured (lengthAt s 1) (λ len from. namedChange byte s kind from len (idBytes kind n)) (Bad Malformed))
     (Bad Malformed)
@@ -55,7 +40,3 @@ changeOf byte n s =
 abbrev pub editFaultNumber : Fault → ℕ
 editFaultNumber Malformed = 7
 editFaultNumber BadName = 8
-
--- what stands behind the name of the edit at a place: its ids
-unfoldable pub behindName : List ℕ → ℕ → List ℕ
-behindName list place = measured (lengthAt list (place + 1)) (λ len from. drop (from + len) list) []

@@ -1,2 +1,1 @@
 pub mod Change
-pub mod Examples

@@ -4,13 +4,8 @@ ghost use Prim.Native.Nat.{_+_, _<_};
 ghost use lib.Dec.{leb};
 ghost use lib.ListN.{length};
 ghost use Rattle.class.specs.Class.{classesOf};
-ghost use Rattle.change.specs.Change.{lengthAt, namedChange, changeOf, behindName};
-
-// A length and the place behind it; or a form that a length doesn't have.
-pub enum Length {
-    Of { value: usize, next: usize },
-    Malformed,
-}
+ghost use Rattle.change.specs.Change.{namedChange, changeOf};
+use length::Length;
 
 // A good edit, by places counted from its start.
 pub struct Change {
@@ -36,34 +31,6 @@ pub enum Reading {
     Bad(Fault),
 }
 
-// The length that stands at a place: groups of seven bits, low group first, top bit set on all but the last.
-pub(crate) fn length_at(s: &[u8], at: usize) -> Length
-    ensures { λ r. ⌜ r ≡ lengthAt (now (s .entry)) at ⌝ }
-{
-    if s.len() <= at {
-        return Length::Malformed;
-    }
-    let low = wide(s[at]);
-    let next = at + 1;
-    if low < 128 {
-        return Length::Of { value: low, next };
-    }
-    if s.len() <= next {
-        return Length::Malformed;
-    }
-    let high = wide(s[next]);
-    if high == 0 {
-        return Length::Malformed;
-    }
-    if 128 <= high {
-        return Length::Malformed;
-    }
-    Length::Of {
-        value: low % 128 + 128 * high,
-        next: next + 1,
-    }
-}
-
 // The edit at the front of the bytes, with ids of n digits.
 pub fn read(t: &[u8; 256], n: usize, s: &[u8]) -> Reading
     ensures { λ r. ⌜ r ≡ changeOf (classesOf (now (t .entry))) n (now (s .entry)) ⌝ }
@@ -71,11 +38,11 @@ pub fn read(t: &[u8; 256], n: usize, s: &[u8]) -> Reading
     if s.len() == 0 {
         return Reading::Bad(Fault::Malformed);
     }
-    let kind = s[0];
+    let kind = parts::edit_kind(s, 0);
     if 2 < kind {
         return Reading::Bad(Fault::Malformed);
     }
-    let Length::Of { value, next } = length_at(s, 1) else {
+    let Length::Of { value, next } = length::length_at(s, 1) else {
         return Reading::Bad(Fault::Malformed);
     };
     behind_length(t, s, kind, next, value, wide(kind) * (n / 2))
@@ -94,7 +61,7 @@ fn behind_length(t: &[u8; 256], s: &[u8], kind: u8, from: usize, len: usize, ids
     if !stands(s, from, len, ids) {
         return Reading::Bad(Fault::Malformed);
     }
-    if !name::is_valid_by(t, parse::part::between(s, from, from + len)) {
+    if !name::is_valid_by(t, parts::edit_name(s, 0)) {
         return Reading::Bad(Fault::BadName);
     }
     let size = from + len + ids;
@@ -104,16 +71,6 @@ fn behind_length(t: &[u8; 256], s: &[u8], kind: u8, from: usize, len: usize, ids
         name: len,
         size,
     })
-}
-
-// What stands behind the name of the edit at a place: its ids.
-pub fn behind_name(list: &[u8], place: u32) -> &[u8]
-    ensures { λ r. ⌜ now r ≡ behindName (now (list .entry)) place ⌝ }
-{
-    let Length::Of { value, next } = length_at(list, place as usize + 1) else {
-        return &list[0..0];
-    };
-    parse::part::between(list, next + value, list.len())
 }
 
 // Whether a name and ids of these lengths stand there in full.

@@ -55,15 +55,16 @@ use Rattle.sort.specs.declared.twin.Twin.{Twin}
 use Rattle.sort.specs.declared.twin.Twin.the-variants as twin
 use Rattle.sort.specs.Twin.{firstTwin}
 use Rattle.edit.specs.declared.list.ListFault.{ListFault}
-use Rattle.edit.specs.declared.list.ListFault.the-variants as list
+use Rattle.edit.specs.declared.list.ListFault.the-variants as fault
 use Rattle.edit.specs.declared.list.Prepared.{Prepared}
 use Rattle.edit.specs.declared.list.Prepared.the-variants as prepared
 use Rattle.edit.specs.List.{Listed, all, bad, editsOf, inOrder, twinsBy, twinsOf, preparedBy, preparedOf, indexBy, indexAfter, listFaultNumber}
 use Rattle.merge.specs.declared.Merged.{Merged}
 use Rattle.merge.specs.declared.Merged.the-variants.{Done, UnknownKind, TooLarge, BadList, ShortIndex, Twins, Refused, NothingToDo, NoRecord, ShortOutput}
-use Rattle.merge.specs.Entry.{Entry, Edit}
+use Rattle.lines.specs.Lines.{Entry}
+use Rattle.merge.specs.Entry.{Edit}
 use Rattle.merge.specs.Merge as merged
-use Rattle.merge.specs.Merge.{newFile, oldEntries, editsInOrder, finished, judgedBy, judged, mergeOf, mergeAnswer, mergeNumber, outputBy, outputAfter, indexAnswer}
+use Rattle.merge.specs.Merge.{overridden, isNone, isIdle, newFile, oldEntries, editsInOrder, finished, judgedBy, judged, mergeOf, mergeAnswer, mergeNumber, outputBy, outputAfter, indexAnswer}
 use Rattle.demands.specs.Refused.{AnsweredBy, Numbered, beforeEleven, Filled, Leaves, Demand1}
 
 -- ---- each answer has one of its numbers
@@ -136,9 +137,9 @@ merge-number : (a : Merged) → AnsweredBy (mergeNumber a) (0 ∷ 1 ∷ 17 ∷ 7
 merge-number (Done len) = refl
 merge-number UnknownKind = refl
 merge-number TooLarge = refl
-merge-number (BadList (list.BadEdit place edit.Malformed)) = refl
-merge-number (BadList (list.BadEdit place edit.BadName)) = refl
-merge-number (BadList (list.TooMany place)) = refl
+merge-number (BadList (fault.BadEdit place edit.Malformed)) = refl
+merge-number (BadList (fault.BadEdit place edit.BadName)) = refl
+merge-number (BadList (fault.TooMany place)) = refl
 merge-number ShortIndex = refl
 merge-number (Twins place) = refl
 merge-number (Refused (refusal.BadHeader k)) = refl
@@ -152,16 +153,16 @@ merge-number ShortOutput = refl
 
 -- only a merge that is done writes
 kept-out : (new out : List ℕ) (m : Merged) → (mergeNumber m ≡ 0 → ⊥) → outputBy new out m ≡ out
-kept-out new out (Done len) no = absurd (no refl)
-kept-out new out UnknownKind no = refl
-kept-out new out TooLarge no = refl
-kept-out new out (BadList why) no = refl
-kept-out new out ShortIndex no = refl
-kept-out new out (Twins place) no = refl
-kept-out new out (Refused why) no = refl
-kept-out new out NothingToDo no = refl
-kept-out new out NoRecord no = refl
-kept-out new out ShortOutput no = refl
+kept-out new out (Done len) not-done = absurd (not-done refl)
+kept-out new out UnknownKind not-done = refl
+kept-out new out TooLarge not-done = refl
+kept-out new out (BadList why) not-done = refl
+kept-out new out ShortIndex not-done = refl
+kept-out new out (Twins place) not-done = refl
+kept-out new out (Refused why) not-done = refl
+kept-out new out NothingToDo not-done = refl
+kept-out new out NoRecord not-done = refl
+kept-out new out ShortOutput not-done = refl
 
 -- behind 11 no number is given that stands before it
 refusal-late : (why : Refusal) → beforeEleven (refusalNumber why) ≡ false
@@ -171,13 +172,13 @@ refusal-late (refusal.Unsorted place) = refl
 
 finished-late : (olds : List Entry) (edits : List Edit) (room : ℕ) → beforeEleven (mergeNumber (finished olds edits room)) ≡ false
 unfolding finished
-finished-late olds edits room = go _ _ _
+finished-late olds edits room = go (isIdle olds edits) (isNone (overridden olds edits)) (ltb room (length (newFile olds edits))) (length (newFile olds edits))
   where
-    go : (a b c : Bool) {len : ℕ} → beforeEleven (mergeNumber (if a NothingToDo (if b NoRecord (if c ShortOutput (Done len))))) ≡ false
-    go true b c = refl
-    go false true c = refl
-    go false false true = refl
-    go false false false = refl
+    go : (a b c : Bool) (len : ℕ) → beforeEleven (mergeNumber (if a NothingToDo (if b NoRecord (if c ShortOutput (Done len))))) ≡ false
+    go true b c len = refl
+    go false true c len = refl
+    go false false true len = refl
+    go false false false len = refl
 
 judged-late : (olds : List Entry) (edits : List Edit) (room : ℕ) (v : Verdict) → beforeEleven (mergeNumber (judgedBy olds edits room v)) ≡ false
 judged-late olds edits room (verdict.Clean count) = finished-late olds edits room
@@ -202,9 +203,9 @@ module _ (n : ℕ) (old list index : List ℕ) (room : ℕ) where
       by-twin k twin.Nothing = judged-late (oldEntries paper n old) (editsInOrder paper n old list) room (checkOf paper n old)
 
       fault-early : (why : ListFault) → beforeEleven (listFaultNumber why) ≡ true
-      fault-early (list.BadEdit place edit.Malformed) = refl
-      fault-early (list.BadEdit place edit.BadName) = refl
-      fault-early (list.TooMany place) = refl
+      fault-early (fault.BadEdit place edit.Malformed) = refl
+      fault-early (fault.BadEdit place edit.BadName) = refl
+      fault-early (fault.TooMany place) = refl
 
       go : (b : Bool) → overLimit (length list) ≡ b → (l : Listed) → editsOf paper n list ≡ l → Index
       go true b l e = same (rw b) (rw b)
@@ -228,10 +229,10 @@ module _ (kind : ℕ) (old list index out : List ℕ) where
     where
       out-by : (a : Admission) → admission kind (length old) (length list) ≡ a
           → (mergeNumber (mergeAnswer kind old list (length index) (length out)) ≡ 0 → ⊥) → outputAfter kind old list (length index) out ≡ out
-      out-by (admitted.Digits n) e no-done =
-          rw e (kept-out (newFile (oldEntries paper n old) (editsInOrder paper n old list)) out (mergeOf paper n old list (length index) (length out)) (rw e at no-done))
-      out-by admitted.UnknownKind e no-done = rw e
-      out-by admitted.TooLarge e no-done = rw e
+      out-by (admitted.Digits n) e not-done =
+          rw e (kept-out (newFile (oldEntries paper n old) (editsInOrder paper n old list)) out (mergeOf paper n old list (length index) (length out)) (rw e at not-done))
+      out-by admitted.UnknownKind e not-done = rw e
+      out-by admitted.TooLarge e not-done = rw e
 
       index-by : (a : Admission) → admission kind (length old) (length list) ≡ a
           → (beforeEleven (mergeNumber (mergeAnswer kind old list (length index) (length out))) ≡ true → indexAnswer kind old list index ≡ index)

@@ -13,11 +13,14 @@ files = record {
   start-begin-by = λ m k o o′. by-answer k o o′ refl;
   iter-next = λ m k o o′. by-answer k o o′ refl;
   iter-next-with-prefix = λ m k o o′. by-answer k o o′ refl;
+  iter-next-by = λ m k o o′. by-answer k o o′ refl;
   iterator-new = λ m k o o′. by-answer k o o′ refl;
   iterator-next = λ m k o o′. clauses-1 (m .𝓤) (λ p q. same k o o′ (one (p .0) (q .0)) (λ i. (one (p .1) (q .1) i, tt)));
   iterator-first = λ m k o o′. by-answer k o o′ refl;
   checks-check = λ m k o o′. by-answer k o o′ refl;
+  checks-check-by = λ m k o o′. by-answer k o o′ refl;
   checks-take-turn = λ m k o o′. by-answer k o o′ refl;
   loose-read = λ m k o o′. by-answer k o o′ refl;
+  loose-read-by = λ m k o o′. by-answer k o o′ refl;
   loose-target-of = λ m k o o′. by-shown k o o′ refl;
 }

@@ -24,7 +24,8 @@ use Rattle.find.specs.Present.{FoundExactly}
 use Rattle.find.proofs.Found.{good-record, found-exactly}
 use Rattle.find.proofs.ItemAt.{stands-good}
 use Rattle.places.specs.Order.{same}
-use Rattle.merge.specs.Entry.{Entry, entryOf, entriesOf}
+use Rattle.lines.specs.Lines.{Entry}
+use Rattle.merge.specs.Entry.{entryOf, entriesOf}
 use Rattle.merge.specs.Theorems.{entryNamed, Shows, Tells}
 use Rattle.merge.proofs.Overriding.{same-is}
 

@@ -18,7 +18,8 @@ use Rattle.name.proofs.Laws.{not-empty}
 use Rattle.places.specs.declared.name.Layout.the-variants.{Edit}
 use Rattle.sort.specs.declared.twin.Twin.{Twin}
 use Rattle.sort.specs.declared.twin.Twin.the-variants.{At, Nothing}
-use Rattle.places.specs.Name.{nameOf, editName}
+use Rattle.parts.specs.Parts.{editName}
+use Rattle.places.specs.Name.{nameOf}
 use Rattle.places.specs.Order.{comesFirst}
 use Rattle.sort.specs.Twin.{firstTwin}
 use Rattle.sort.proofs.Pairs.{Each, each-map, Pairs, pairs-by}

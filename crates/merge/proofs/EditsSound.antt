@@ -1,5 +1,5 @@
 -- Every edit of a list that has no fault has a valid name, and puts a sound entry of that name there, or none.
-use mathlib.Core.Path.{_≡_, refl, ap, _∙_}
+use mathlib.Core.Path.{_≡_, refl, sym, ap, _∙_}
 use mathlib.Core.Bool.{Bool, true, false}
 use mathlib.Core.List.{List, [], _∷_}
 use Prim.Native.Nat.{ℕ, zero, suc, _+_, _*_, _/_, _≤_, _<_}
@@ -11,19 +11,22 @@ use lib.Seq.{length-take-le, drop-drop, getD-take, getD-drop}
 use Rattle.parse.specs.Choice.{if}
 use Rattle.class.specs.Class.{Classes, paper}
 use Rattle.name.specs.Name.{validName}
-use Rattle.places.specs.Name.{editName}
 use Rattle.sort.proofs.Pairs.{Each}
 use Rattle.change.specs.declared.Change.{Change}
 use Rattle.change.specs.declared.Reading.{Reading}
 use Rattle.change.specs.declared.Reading.the-variants.{Good, Bad}
-use Rattle.change.specs.declared.Length.the-variants as long
-use Rattle.change.specs.Change.{lengthAt, idBytes, changeOf, behindName}
+use Rattle.length.specs.declared.Length.the-variants as long
+use Rattle.length.specs.Length.{lengthAt}
+use Rattle.length.proofs.Groups.{length-there}
+use Rattle.parts.specs.Parts.{editKind, editName, behindName}
+use Rattle.parts.proofs.Parts.{name-there, behind-there}
+use Rattle.change.specs.Change.{idBytes, changeOf}
 use Rattle.edit.specs.declared.list.ListFault.the-variants.{TooMany}
 use Rattle.edit.specs.List.{Listed, all, bad, onto, listedBy, editsFrom, editsOf}
-use Rattle.text.specs.Text.{hexText}
-use Rattle.text.proofs.Laws.{length-hex, hex-is-hex}
+use Rattle.hex.specs.Hex.{hexText}
+use Rattle.hex.proofs.Laws.{length-hex, hex-is-hex}
 use Rattle.merge.specs.Entry.{newOf, editAt}
-use Rattle.change.proofs.Parts.{length-there, name-there, behind-there, Whole, good-whole}
+use Rattle.change.proofs.Parts.{Whole, good-whole}
 use Rattle.merge.proofs.Entries.{Digits, AllOf}
 
 -- ---- a list that has no fault: at each place a good edit stands, and there are no more of them than turns
@@ -78,16 +81,17 @@ module _ (n half : ℕ) (even : n ≡ 2 * half) where
         hex = λ i h. hex-is-hex (take half ids) (λ j b. rw (getD-take half ids j 0 (omega arith)) (bytes j)) i (omega arith);
       })
 
+  -- where the ids of the kind stand one after another
   new-of : (kind : ℕ) (name ids : List ℕ) → kind ≤ 2 → validName paper name ≡ true → idBytes kind n ≤ length ids
-      → ((i : ℕ) → getD ids i 0 < 256) → AllOf n name (newOf n kind name ids)
+      → ((i : ℕ) → getD ids i 0 < 256) → AllOf n name (newOf kind name (take (n / 2) ids) (take (n / 2) (drop (n / 2) ids)))
   new-of zero name ids k v h b = tt
   new-of (suc zero) name ids k v h b =
-      (refl, record { id = raw-digits ids (omega arith) b; name = v; object = tt }, refl)
+      (refl, record { id = raw-digits ids (omega arith) b; name = v; peeled = tt }, refl)
   new-of (suc (suc zero)) name ids k v h b =
       let m : n / 2 ≡ half = omega arith in
       let l = length-drop (n / 2) ids in
       let second = raw-digits (drop (n / 2) ids) (omega arith) (λ i. rw (getD-drop (n / 2) ids i 0) (b (n / 2 + i))) in
-      (refl, record { id = raw-digits ids (omega arith) b; name = v; object = second }, refl)
+      (refl, record { id = raw-digits ids (omega arith) b; name = v; peeled = second }, refl)
   new-of (suc (suc (suc kind))) name ids k v h b = absurd (omega arith)
 
 -- ---- the edit at a place
@@ -97,14 +101,19 @@ module _ (n : ℕ) (list : List ℕ) (place : ℕ) (w : IsEdit paper n list plac
   measure = length-there list place (w .measure)
 
   pub edit-name-valid : validName paper (editName list place) ≡ true
-  edit-name-valid = rw (name-there list place measure, ← drop-drop (w .from) place list) (w .valid)
+  edit-name-valid =
+      ap (validName paper)
+      (name-there list place measure ∙ ap (take (w .len)) (sym (drop-drop (w .from) place list)) ∙ sym (name-there (drop place list) 0 (w .measure)))
+      ∙ w .valid
+
+  kind-there : editKind (drop place list) 0 ≡ editKind list place
+  kind-there = getD-drop place list 0 0 ∙ ap (editKind list) (add-zero place)
 
   pub edit-puts : (half : ℕ) → n ≡ 2 * half → ((i : ℕ) → getD list i 0 < 256) → AllOf n (editName list place) (editAt n list place .new)
   edit-puts half even bytes =
-      let kind : getD (drop place list) 0 0 ≡ getD list place 0 = getD-drop place list 0 0 ∙ ap (λ (k : ℕ). getD list k 0) (add-zero place) in
-      let whole : w .from + w .len + idBytes (getD list place 0) n ≤ length (drop place list) = rw kind at (w .fits) in
+      let whole : w .from + w .len + idBytes (editKind list place) n ≤ length (drop place list) = rw kind-there at (w .fits) in
       let at = place + w .from + w .len in
       let ids : behindName list place ≡ drop at list = behind-there list place measure in
-      new-of n half even (getD list place 0) (editName list place) (behindName list place) (omega (arith, w .known)) edit-name-valid
+      new-of n half even (editKind list place) (editName list place) (behindName list place) (omega (arith, w .known, kind-there)) edit-name-valid
       (rw (ids, length-drop at list) (omega (arith, length-drop place list)))
       (λ i. rw (ids, getD-drop at list i 0) (bytes (at + i)))

@@ -9,7 +9,8 @@ use Rattle.compare.specs.declared.order.Order.the-variants.{Less}
 use Rattle.class.specs.Class.{paper, isHex}
 use Rattle.compare.specs.Order.{orderOf}
 use Rattle.name.specs.Name.{validName}
-use Rattle.merge.specs.Entry.{Entry, Edit}
+use Rattle.lines.specs.Lines.{Entry}
+use Rattle.merge.specs.Entry.{Edit}
 
 pub record Digits (n : ℕ) (id : List ℕ) : Type 0 where
   pub long : length id ≡ n
@@ -22,7 +23,7 @@ DigitsIf n (some id) = Digits n id
 pub record Sound (n : ℕ) (e : Entry) : Type 0 where
   pub id : Digits n (e .id)
   pub name : validName paper (e .name) ≡ true
-  pub object : DigitsIf n (e .object)
+  pub peeled : DigitsIf n (e .peeled)
 
 abbrev pub AllSound : ℕ → List Entry → Type 0
 AllSound n [] = Unit {0}

@@ -11,13 +11,14 @@ use Rattle.header.specs.Header.{noted, firstLine, headerOf}
 use Rattle.decode.specs.Record.{recordOf}
 use Rattle.checks.specs.Check.{judgeBody, checkOf}
 use Rattle.iter.specs.Items.{sizeOf, itemsBehind, items}
-use Rattle.places.specs.Name.{editName}
+use Rattle.length.specs.Length.{lengthAt}
+use Rattle.parts.specs.Parts.{editName, behindName}
 use Rattle.places.specs.Order.{before}
 use Rattle.sort.specs.Sorted.{sorted}
 use Rattle.sort.specs.Twin.{firstTwin}
-use Rattle.change.specs.Change.{lengthAt, changeOf, namedChange, behindName}
+use Rattle.change.specs.Change.{changeOf, namedChange}
 use Rattle.edit.specs.List.{editsFrom, editsOf, twinsOf, preparedOf, indexAfter}
-use Rattle.text.specs.Text.{hexDigit}
+use Rattle.hex.specs.Hex.{hexDigit}
 use Rattle.merge.specs.Merge.{newFile, finished, oldEntries, judged, editsInOrder, mergeOf, mergeAnswer, outputAfter, indexAnswer}
 use Rattle.merge.specs.Examples.{allComputed, lengths, cases, numbered, longInputs}
 

@@ -20,11 +20,11 @@ use Rattle.iter.specs.Items.{Item, items, nameIn, nameOf}
 use Rattle.checks.specs.Check.{judgeBody}
 use Rattle.checks.specs.Passes.{ascending}
 use Rattle.checks.proofs.Passes.{judged}
-use Rattle.places.specs.Name.{editName}
-use Rattle.change.specs.Change.{behindName}
+use Rattle.parts.specs.Parts.{editKind, editName, editId, editPeeled}
 use Rattle.put.specs.Put.{over}
 use Rattle.put.proofs.Laws.{over-fits}
-use Rattle.merge.specs.Entry.{Entry, newOf, entryOf, entriesOf, editsAt}
+use Rattle.lines.specs.Lines.{Entry}
+use Rattle.merge.specs.Entry.{newOf, entryOf, entriesOf, editsAt}
 use Rattle.merge.specs.Merge.{isNone, hasName, isIdle}
 use Rattle.runs.specs.Runs.{Run, runsOf, atEnd, marksOf, isStill}
 use Rattle.merge.specs.Splice.{Above, Rising}
@@ -69,10 +69,10 @@ module _ (list : List ℕ) where
 
   module _ (n : ℕ) where
     -- an edit that puts nothing there is a delete
-    none-new : (kind : ℕ) (name ids : List ℕ) → isNone (newOf n kind name ids) ≡ eqb kind 0
-    none-new zero name ids = refl
-    none-new (suc zero) name ids = refl
-    none-new (suc (suc kind)) name ids = sym (ne-eqb (suc (suc kind)) 0 (λ z. omega arith))
+    none-new : (kind : ℕ) (name id peeled : List ℕ) → isNone (newOf kind name id peeled) ≡ eqb kind 0
+    none-new zero name id peeled = refl
+    none-new (suc zero) name id peeled = refl
+    none-new (suc (suc kind)) name id peeled = sym (ne-eqb (suc (suc kind)) 0 (λ z. omega arith))
 
     -- a record that no edit names does not matter
     idle-past : (r : Entry) (rs : List Entry) (ps : List ℕ) → Above list (r .name) ps
@@ -116,7 +116,7 @@ module _ (list : List ℕ) where
           ∙ rw (
             eq-eqb place place refl,
             rest,
-            none-new (getD list p 0) (editName list p) (behindName list p),
+            none-new (editKind list p) (editName list p) (editId n list p) (editPeeled n list p),
             none-has (editName list p) (entriesOf n (i ∷ l)) above,
           )
 

@@ -15,13 +15,14 @@ use Rattle.checks.specs.Check.{judgeBody}
 use Rattle.checks.specs.Passes.{Passes}
 use Rattle.iter.proofs.Items.{tile}
 use Rattle.checks.proofs.Passes.{judged}
-use Rattle.places.specs.Name.{editName}
+use Rattle.parts.specs.Parts.{editName}
 use Rattle.put.specs.Put.{over}
-use Rattle.text.specs.Text.{withoutCR}
+use Rattle.put.specs.Cr.{withoutCR}
 use Rattle.put.proofs.Laws.{over-fits}
-use Rattle.text.proofs.Laws.{without-append}
-use Rattle.merge.specs.Entry.{Entry, Edit, linesOf, linesOfAll, entryOf, entriesOf, editAt, editsAt}
-use Rattle.merge.specs.Merge.{overridden, headerLine, newFile}
+use Rattle.put.proofs.Crs.{without-append}
+use Rattle.lines.specs.Lines.{Entry, linesOf, linesOfAll, headerLine}
+use Rattle.merge.specs.Entry.{Edit, entryOf, entriesOf, editAt, editsAt}
+use Rattle.merge.specs.Merge.{overridden, newFile}
 use Rattle.runs.specs.Runs.{Run, run, runsOf, marksOf}
 use Rattle.merge.specs.Splice.{spliced, splicedFile}
 use Rattle.merge.proofs.OldLines.{AllPlain, olds-plain}
@@ -161,7 +162,7 @@ pub spliced-is-new : (n : ℕ) (file : List ℕ) (body : ℕ) (list ps marks₀ 
     → judgeBody paper n file body ≡ Clean count
     → 2 * length ps ≤ length marks₀
     → marks ≡ over marks₀ 0 (marksOf (runsOf n list body (items paper n (drop body file)) ps))
-    → splicedFile n file list body ps marks ≡ newFile (entriesOf n (items paper n (drop body file))) (editsAt n list ps)
+    → splicedFile headerLine n file list body ps marks ≡ newFile (entriesOf n (items paper n (drop body file))) (editsAt n list ps)
 unfolding splicedFile newFile
 spliced-is-new n file body list ps marks₀ marks count clean room m =
     let olds = items paper n (drop body file) in

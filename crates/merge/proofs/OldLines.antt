@@ -25,9 +25,10 @@ use Rattle.iter.specs.Items.{Item, sizeOf, itemOf, items, nameOf}
 use Rattle.checks.specs.Passes.{isGood, allGood}
 use Rattle.iter.proofs.Items.{size-good}
 use Rattle.iter.proofs.Turns.{item-name}
-use Rattle.text.specs.Text.{notCR, withoutCR}
-use Rattle.text.proofs.Laws.{without-append, without-none}
-use Rattle.merge.specs.Entry.{recordLine, objectLine, linesOf, objectIn, entryOf}
+use Rattle.put.specs.Cr.{notCR, withoutCR}
+use Rattle.put.proofs.Crs.{without-append, without-none}
+use Rattle.lines.specs.Lines.{recordLine, peeledLine, linesOf}
+use Rattle.merge.specs.Entry.{peeledIn, entryOf}
 use Rattle.merge.proofs.GoodItems.{Each, each-good}
 use Rattle.merge.proofs.OldSound.{front-digits}
 
@@ -72,8 +73,8 @@ record-without : (id name end : List ℕ) → withoutCR id ≡ id → withoutCR 
     → withoutCR (id ++ 32 ∷ (name ++ end)) ≡ recordLine id name
 record-without id name end p q r = rw (without-append id (32 ∷ (name ++ end)), p, without-append name end, q, r)
 
-object-without : (id end : List ℕ) → withoutCR id ≡ id → withoutCR end ≡ 10 ∷ [] → withoutCR (94 ∷ (id ++ end)) ≡ objectLine id
-object-without id end p r = rw (without-append id end, p, r)
+peeled-without : (id end : List ℕ) → withoutCR id ≡ id → withoutCR end ≡ 10 ∷ [] → withoutCR (94 ∷ (id ++ end)) ≡ peeledLine id
+peeled-without id end p r = rw (without-append id end, p, r)
 
 module _ (n : ℕ) (s : List ℕ) where
   abbrev size : ℕ
@@ -95,10 +96,10 @@ module _ (n : ℕ) (s : List ℕ) where
       ∙ record-without (take n s) name (take (eol after) after) (id-kept n s (h .id)) (name-kept name (h .name)) (end-kept after (h .end))
 
   -- the second line, behind it: `^`, the peeled id and the line end
-  abbrev object : List ℕ
-  object = take n (drop (suc size) s)
+  abbrev peeled-id : List ℕ
+  peeled-id = take n (drop (suc size) s)
 
-  second-line : getD s size 0 ≡ 94 → Peel paper n (drop size s) → withoutCR (take (peelLen paper n (drop size s)) (drop size s)) ≡ objectLine object
+  second-line : getD s size 0 ≡ 94 → Peel paper n (drop size s) → withoutCR (take (peelLen paper n (drop size s)) (drop size s)) ≡ peeledLine peeled-id
   unfolding peelLen
   second-line c p =
       let second = drop (suc size) s in
@@ -106,10 +107,10 @@ module _ (n : ℕ) (s : List ℕ) where
       let id : n ≤ span isHex second = rw caret at (p .id) in
       let end : 0 < eol (drop n second) = rw caret at (p .end) in
       let z : suc n + eol (drop n second) ≡ suc (n + eol (drop n second)) = omega arith in
-      let cut : take (suc n + eol (drop n second)) (94 ∷ second) ≡ 94 ∷ (object ++ take (eol (drop n second)) (drop n second)) =
+      let cut : take (suc n + eol (drop n second)) (94 ∷ second) ≡ 94 ∷ (peeled-id ++ take (eol (drop n second)) (drop n second)) =
       rw (z, take-add n (eol (drop n second)) second) in
       rw caret
-      (ap withoutCR cut ∙ object-without object (take (eol (drop n second)) (drop n second)) (id-kept n second id) (end-kept (drop n second) end))
+      (ap withoutCR cut ∙ peeled-without peeled-id (take (eol (drop n second)) (drop n second)) (id-kept n second id) (end-kept (drop n second) end))
 
   -- ---- the entry of a good record, by its parts in all the bytes
 
@@ -120,18 +121,18 @@ module _ (n : ℕ) (s : List ℕ) where
     name-is : nameOf n (itemOf paper n s) ≡ name
     name-is = rw (item-name paper n s r e, z, add-one n)
 
-    entry-plain : r .object ≡ 0 → entryOf n (itemOf paper n s) ≡ record { name = name; id = take n s; object = none }
+    entry-plain : r .object ≡ 0 → entryOf n (itemOf paper n s) ≡ record { name = name; id = take n s; peeled = none }
     entry-plain o =
-        let w : objectIn n (recordOf paper n s) (take (sizeOf paper n s) s) ≡ none = rw (e, o) in
-        λ i. record { name = name-is i; id = id-is i; object = w i }
+        let w : peeledIn n (recordOf paper n s) (take (sizeOf paper n s) s) ≡ none = rw (e, o) in
+        λ i. record { name = name-is i; id = id-is i; peeled = w i }
 
     entry-peeled : r .object ≡ suc size → suc size + n ≤ r .size
-        → entryOf n (itemOf paper n s) ≡ record { name = name; id = take n s; object = some object }
+        → entryOf n (itemOf paper n s) ≡ record { name = name; id = take n s; peeled = some peeled-id }
     entry-peeled o l =
         let k = sizeOf paper n s in
         let inside : suc size + n ≤ k = omega (arith, size-good paper n s r e) in
-        let w : objectIn n (recordOf paper n s) (take k s) ≡ some object = rw (e, o, part-of-front n (suc size) k s inside) in
-        λ i. record { name = name-is i; id = id-is i; object = w i }
+        let w : peeledIn n (recordOf paper n s) (take k s) ≡ some peeled-id = rw (e, o, part-of-front n (suc size) k s inside) in
+        λ i. record { name = name-is i; id = id-is i; peeled = w i }
 
   peeled-inside : suc size + n ≤ size + peelLen paper n (drop size s)
   unfolding peelLen

@@ -58,10 +58,10 @@ module _ (n : ℕ) (s : List ℕ) where
   name-valid : Head paper n s → (r : Record) → recordOf paper n s ≡ Good r → r .name ≡ nameLen paper n s → validName paper (nameOf n (itemOf paper n s)) ≡ true
   name-valid h r e z = rw (item-name paper n s r e, z, add-one n) (h .name)
 
-  object-digits : (r : Record) → recordOf paper n s ≡ Good r → r .size ≡ headLen paper n s + peelLen paper n (drop (headLen paper n s) s)
+  peeled-digits : (r : Record) → recordOf paper n s ≡ Good r → r .size ≡ headLen paper n s + peelLen paper n (drop (headLen paper n s) s)
       → Peel paper n (drop (headLen paper n s) s) → Digits n (take n (drop (suc (headLen paper n s)) (take (sizeOf paper n s) s)))
   unfolding peelLen
-  object-digits r e z p =
+  peeled-digits r e z p =
       let k = headLen paper n s in
       let d : drop 1 (drop k s) ≡ drop (suc k) s = rw (add-one k) at (drop-drop 1 k s) in
       rw (part-of-front n (suc k) (sizeOf paper n s) s (omega (arith, size-good paper n s r e)), ← d) (front-digits n (drop 1 (drop k s)) (p .id))
@@ -71,8 +71,8 @@ module _ (n : ℕ) (s : List ℕ) where
     where
       go : View paper n s → Sound n (entryOf n (itemOf paper n s))
       go (is-bad f w q) = absurd (let z : _≡_ {A = ℕ} 0 1 = cc in omega arith)
-      go (plain h c q) = record { id = id-digits _ q (h .id); name = name-valid h _ q refl; object = rw q tt }
-      go (peeled h c p q) = record { id = id-digits _ q (h .id); name = name-valid h _ q refl; object = rw q (object-digits _ q refl p) }
+      go (plain h c q) = record { id = id-digits _ q (h .id); name = name-valid h _ q refl; peeled = rw q tt }
+      go (peeled h c p q) = record { id = id-digits _ q (h .id); name = name-valid h _ q refl; peeled = rw q (peeled-digits _ q refl p) }
 
 -- ---- all items of some bytes
 

@@ -10,7 +10,8 @@ use Rattle.parse.specs.Choice.{if}
 use Rattle.compare.specs.Order.{orderOf}
 use Rattle.compare.proofs.Orders.{order-equal, less-flip, greater-flip, less-trans}
 use Rattle.places.specs.Order.{isEqual, same}
-use Rattle.merge.specs.Entry.{Entry, Edit}
+use Rattle.lines.specs.Lines.{Entry}
+use Rattle.merge.specs.Entry.{Edit}
 use Rattle.compare.specs.Order.{byOrder}
 use Rattle.merge.specs.Merge.{overridden}
 use Rattle.merge.specs.Theorems.{entryNamed, leftBy, afterEdits}

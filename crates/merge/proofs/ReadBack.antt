@@ -15,21 +15,22 @@ use Rattle.decode.specs.declared.reference.Reading.the-variants.{Good}
 use Rattle.decode.specs.Record.{recordOf}
 use Rattle.decode.proofs.Records.{good-alike, headLen, peelLen, Peel, plain-is, peeled-is}
 use Rattle.iter.specs.Items.{Item, nameOf}
-use Rattle.merge.specs.Entry.{Entry, recordLine, objectLine, objectLines, linesOf, objectAt, entryOf}
+use Rattle.lines.specs.Lines.{Entry, recordLine, peeledLine, peeledLines, linesOf}
+use Rattle.merge.specs.Entry.{peeledAt, entryOf}
 use Rattle.merge.proofs.Entries.{Digits, DigitsIf, Sound}
 use Rattle.merge.proofs.WrittenLines.{behind, lineThen, name-len, line-head, head-len, behind-head, byte-behind, line-peel, peel-len}
 
 -- where the peeled id stands behind a first line of some length: behind the `^`
-abbrev pub objectPlace : ℕ → Option (List ℕ) → ℕ
-objectPlace first none = 0
-objectPlace first (some id) = suc first
+abbrev pub peeledPlace : ℕ → Option (List ℕ) → ℕ
+peeledPlace first none = 0
+peeledPlace first (some id) = suc first
 
 -- what the lines of an entry read as, and the item that they are
 abbrev pub readingOf : Entry → Record
 readingOf e =
     record {
       name = length (e .name);
-      object = objectPlace (length (recordLine (e .id) (e .name))) (e .object);
+      object = peeledPlace (length (recordLine (e .id) (e .name))) (e .peeled);
       size = length (linesOf e);
     }
 
@@ -55,7 +56,7 @@ module _ {n : ℕ} {id : List ℕ} (digits : Digits n id) (name : List ℕ) (val
 
   module _ {object : List ℕ} (more : Digits n object) (rest : List ℕ) where
     abbrev second : List ℕ
-    second = objectLine object ++ rest
+    second = peeledLine object ++ rest
 
     abbrev both : List ℕ
     both = lineThen id name second
@@ -66,13 +67,13 @@ module _ {n : ℕ} {id : List ℕ} (digits : Digits n id) (name : List ℕ) (val
     peel : Peel paper n (drop (headLen paper n both) both)
     peel = rw (behind-head digits name valid second, second-laid) (line-peel more rest)
 
-    second-len : peelLen paper n (drop (headLen paper n both) both) ≡ length (objectLine object)
+    second-len : peelLen paper n (drop (headLen paper n both) both) ≡ length (peeledLine object)
     second-len =
         rw (behind-head digits name valid second, second-laid)
         (omega (arith, peel-len more rest, length-append object (10 ∷ []), more .long))
 
     read-peeled : recordOf paper n (recordLine id name ++ second)
-        ≡ Good (record { name = length name; object = suc (length (recordLine id name)); size = length (recordLine id name) + length (objectLine object) })
+        ≡ Good (record { name = length name; object = suc (length (recordLine id name)); size = length (recordLine id name) + length (peeledLine object) })
     read-peeled =
         let h : headLen paper n both ≡ length (recordLine id name) = omega (arith, head-len digits name valid second, first-len) in
         ap (recordOf paper n) (laid id name second)
@@ -80,41 +81,41 @@ module _ {n : ℕ} {id : List ℕ} (digits : Digits n id) (name : List ℕ) (val
         ∙ good-alike (name-len digits name valid second) (ap suc h) (omega (arith, second-len))
 
   read-lines : (o : Option (List ℕ)) → DigitsIf n o → (rest : List ℕ) → (getD rest 0 0 ≡ 94 → ⊥)
-      → recordOf paper n ((recordLine id name ++ objectLines o) ++ rest)
-      ≡ Good (record { name = length name; object = objectPlace (length (recordLine id name)) o; size = length (recordLine id name ++ objectLines o) })
+      → recordOf paper n ((recordLine id name ++ peeledLines o) ++ rest)
+      ≡ Good (record { name = length name; object = peeledPlace (length (recordLine id name)) o; size = length (recordLine id name ++ peeledLines o) })
   read-lines none d rest other = rw (append-nil (recordLine id name)) (read-plain rest other)
   read-lines (some object) d rest other =
-      rw (append-assoc (recordLine id name) (objectLine object) rest, length-append (recordLine id name) (objectLine object)) (read-peeled d rest)
+      rw (append-assoc (recordLine id name) (peeledLine object) rest, length-append (recordLine id name) (peeledLine object)) (read-peeled d rest)
 
 -- a record without a peeled id ends where no `^` follows
 pub read-one : (n : ℕ) (e : Entry) → Sound n e → (rest : List ℕ) → (getD rest 0 0 ≡ 94 → ⊥) → recordOf paper n (linesOf e ++ rest) ≡ Good (readingOf e)
-read-one n e s rest other = read-lines (s .id) (e .name) (s .name) (e .object) (s .object) rest other
+read-one n e s rest other = read-lines (s .id) (e .name) (s .name) (e .peeled) (s .peeled) rest other
 
 -- the lines of an entry, and any bytes behind them
-pub lines-then : (e : Entry) (rest : List ℕ) → linesOf e ++ rest ≡ lineThen (e .id) (e .name) (objectLines (e .object) ++ rest)
+pub lines-then : (e : Entry) (rest : List ℕ) → linesOf e ++ rest ≡ lineThen (e .id) (e .name) (peeledLines (e .peeled) ++ rest)
 lines-then e rest = simp append-assoc
 
 -- ---- the entry again
 
 module _ (n : ℕ) (e : Entry) (s : Sound n e) where
-  lines-laid : linesOf e ≡ lineThen (e .id) (e .name) (objectLines (e .object))
-  lines-laid = laid (e .id) (e .name) (objectLines (e .object))
+  lines-laid : linesOf e ≡ lineThen (e .id) (e .name) (peeledLines (e .peeled))
+  lines-laid = laid (e .id) (e .name) (peeledLines (e .peeled))
 
   pub name-back : nameOf n (written e) ≡ e .name
   name-back =
-      rw (add-one n, lines-laid, behind (e .id) 32 (e .name ++ 10 ∷ objectLines (e .object)) n (s .id .long))
-      (take-append-seam (e .name) (10 ∷ objectLines (e .object)))
+      rw (add-one n, lines-laid, behind (e .id) 32 (e .name ++ 10 ∷ peeledLines (e .peeled)) n (s .id .long))
+      (take-append-seam (e .name) (10 ∷ peeledLines (e .peeled)))
 
   id-back : take n (linesOf e) ≡ e .id
-  id-back = rw lines-laid (take-at (e .id) (32 ∷ (e .name ++ 10 ∷ objectLines (e .object))) n (s .id .long))
+  id-back = rw lines-laid (take-at (e .id) (32 ∷ (e .name ++ 10 ∷ peeledLines (e .peeled))) n (s .id .long))
 
   abbrev first : List ℕ
   first = recordLine (e .id) (e .name)
 
-  object-back : (o : Option (List ℕ)) → DigitsIf n o → objectAt n (first ++ objectLines o) (objectPlace (length first) o) ≡ o
-  object-back none d = refl
-  object-back (some object) d =
+  peeled-back : (o : Option (List ℕ)) → DigitsIf n o → peeledAt n (first ++ peeledLines o) (peeledPlace (length first) o) ≡ o
+  peeled-back none d = refl
+  peeled-back (some object) d =
       ap some (ap (take n) (behind first 94 (object ++ 10 ∷ []) (length first) refl) ∙ take-at object (10 ∷ []) n (d .long))
 
   pub entry-back : entryOf n (written e) ≡ e
-  entry-back = λ i. record { name = name-back i; id = id-back i; object = object-back (e .object) (s .object) i }
+  entry-back = λ i. record { name = name-back i; id = id-back i; peeled = peeled-back (e .peeled) (s .peeled) i }

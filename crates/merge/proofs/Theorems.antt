@@ -16,7 +16,8 @@ use Rattle.edit.specs.declared.list.Prepared.{Prepared}
 use Rattle.edit.specs.declared.list.Prepared.the-variants as prepared
 use Rattle.edit.specs.List.{editsOf, placesOf, preparedOf}
 use Rattle.merge.specs.declared.Merged.the-variants.{Done}
-use Rattle.merge.specs.Entry.{Entry, Edit, linesOfAll, entriesOf}
+use Rattle.lines.specs.Lines.{Entry, linesOfAll}
+use Rattle.merge.specs.Entry.{Edit, entriesOf}
 use Rattle.merge.specs.Merge.{overridden, newFile, oldEntries, editsInOrder, judgedBy, judged, listed, mergeOf}
 use Rattle.merge.specs.Theorems.{NewFileMeans, OneMerge}
 use Rattle.merge.proofs.EditsRise.{readied, in-order-rises}

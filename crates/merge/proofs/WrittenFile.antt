@@ -12,8 +12,7 @@ use Rattle.checks.specs.Check.{checkOf}
 use Rattle.checks.specs.Passes.{allGood, ascending, Passes}
 use Rattle.checks.proofs.Passes.{judges}
 use Rattle.checks.proofs.CheckMeans.{read}
-use Rattle.merge.specs.Entry.{Entry, linesOfAll}
-use Rattle.merge.specs.Merge.{headerLine}
+use Rattle.lines.specs.Lines.{Entry, linesOfAll, headerLine}
 use Rattle.merge.specs.Theorems.{entryNamed, Tells}
 use Rattle.merge.proofs.CheckedLookup.{body-tells}
 use Rattle.merge.proofs.Entries.{AllSound, Ascends}

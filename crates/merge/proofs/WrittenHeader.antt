@@ -9,7 +9,7 @@ use Rattle.parse.specs.Line.{eol, newlineAt, textAt}
 use Rattle.header.specs.declared.Peeled.the-variants.{Fully}
 use Rattle.header.specs.declared.Opened.the-variants.{Header}
 use Rattle.header.specs.Header.{noted, headerOf}
-use Rattle.merge.specs.Merge.{headerLine}
+use Rattle.lines.specs.Lines.{headerLine}
 
 pub written-header : (s : List ℕ) → headerOf paper (headerLine ++ s) ≡ Header (record { peeled = Fully; sorted = true; body = 46 })
 unfolding headerOf textAt newlineAt eol isLineEnd noted

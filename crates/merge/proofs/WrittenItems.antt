@@ -11,7 +11,8 @@ use Rattle.decode.specs.declared.reference.Reading.the-variants.{Good}
 use Rattle.decode.specs.Record.{recordOf}
 use Rattle.iter.specs.Items.{Item, sizeOf, items}
 use Rattle.iter.proofs.Items.{size-good, items-nil, items-step}
-use Rattle.merge.specs.Entry.{Entry, objectLines, linesOf, linesOfAll, entriesOf}
+use Rattle.lines.specs.Lines.{Entry, peeledLines, linesOf, linesOfAll}
+use Rattle.merge.specs.Entry.{entriesOf}
 use Rattle.merge.proofs.Entries.{Digits, Sound, AllSound}
 use Rattle.merge.proofs.ReadBack.{lines-then, readingOf, written, read-one, entry-back}
 
@@ -35,7 +36,7 @@ module _ (n : ℕ) where
   no-caret : (es : List Entry) → AllSound n es → getD (linesOfAll es) 0 0 ≡ 94 → ⊥
   no-caret [] s h = omega arith
   no-caret (e ∷ es) s h =
-      digit-first (e .id) (s .0 .id) (e .name ++ 10 ∷ (objectLines (e .object) ++ linesOfAll es)) (rw (lines-then e (linesOfAll es)) at h)
+      digit-first (e .id) (s .0 .id) (e .name ++ 10 ∷ (peeledLines (e .peeled) ++ linesOfAll es)) (rw (lines-then e (linesOfAll es)) at h)
 
   items-one : (e : Entry) → Sound n e → (rest : List ℕ) → (getD rest 0 0 ≡ 94 → ⊥) → items paper n (linesOf e ++ rest) ≡ written e ∷ items paper n rest
   items-one e s rest other =
@@ -43,7 +44,7 @@ module _ (n : ℕ) where
       let r : recordOf paper n all ≡ Good (readingOf e) = read-one n e s rest other in
       let z : sizeOf paper n all ≡ length (linesOf e) = size-good paper n all (readingOf e) r in
       let some : 0 < length all =
-      omega (arith, ap length (lines-then e rest), length-append (e .id) (32 ∷ (e .name ++ 10 ∷ (objectLines (e .object) ++ rest)))) in
+      omega (arith, ap length (lines-then e rest), length-append (e .id) (32 ∷ (e .name ++ 10 ∷ (peeledLines (e .peeled) ++ rest)))) in
       items-step paper n all some ∙ rw (z, r, take-append-seam (linesOf e) rest, drop-append-seam (linesOf e) rest)
 
   pub items-back : (es : List Entry) → AllSound n es → items paper n (linesOfAll es) ≡ writtenAll es

@@ -1,52 +1,28 @@
--- A record of the new file, and an edit.
-use mathlib.Core.List.{List, [], _∷_, _++_}
+-- The records of the old file, and the edits.
+use mathlib.Core.List.{List, [], _∷_}
 use mathlib.Core.Option.{Option, none, some}
-use Prim.Native.Nat.{ℕ, zero, suc, _/_}
-use lib.ListN.{getD, take, drop}
+use Prim.Native.Nat.{ℕ, zero, suc}
+use lib.ListN.{take, drop}
 use Rattle.decode.specs.declared.reference.Reading.{Reading}
 use Rattle.decode.specs.declared.reference.Reading.the-variants.{Good, Bad}
 use Rattle.iter.specs.Items.{Item, nameOf}
-use Rattle.places.specs.Name.{editName}
-use Rattle.change.specs.Change.{behindName}
-use Rattle.text.specs.Text.{hexText}
-
--- a record: its name, its id, and its peeled id if it has one, both in digits
-pub record Entry : Type 0 where
-  pub name : List ℕ
-  pub id : List ℕ
-  pub object : Option (List ℕ)
-
--- "every line ends in LF": 10. A space is 32, `^` is 94
-abbrev pub recordLine : List ℕ → List ℕ → List ℕ
-recordLine id name = id ++ 32 ∷ (name ++ 10 ∷ [])
-
-abbrev pub objectLine : List ℕ → List ℕ
-objectLine id = 94 ∷ (id ++ 10 ∷ [])
-
-abbrev pub objectLines : Option (List ℕ) → List ℕ
-objectLines none = []
-objectLines (some id) = objectLine id
-
-abbrev pub linesOf : Entry → List ℕ
-linesOf e = recordLine (e .id) (e .name) ++ objectLines (e .object)
-
-abbrev pub linesOfAll : List Entry → List ℕ
-linesOfAll [] = []
-linesOfAll (e ∷ l) = linesOf e ++ linesOfAll l
+use Rattle.parts.specs.Parts.{editKind, editName, editId, editPeeled}
+use Rattle.hex.specs.Hex.{hexText}
+use Rattle.lines.specs.Lines.{Entry}
 
 -- ---- old records, with ids of n digits: "old ids as read"
 
 -- where a record has a peeled id, it stands at a place that is not 0
-abbrev pub objectAt : ℕ → List ℕ → ℕ → Option (List ℕ)
-objectAt n s zero = none
-objectAt n s (suc place) = some (take n (drop (suc place) s))
+abbrev pub peeledAt : ℕ → List ℕ → ℕ → Option (List ℕ)
+peeledAt n s zero = none
+peeledAt n s (suc place) = some (take n (drop (suc place) s))
 
-abbrev pub objectIn : ℕ → Reading → List ℕ → Option (List ℕ)
-objectIn n (Good r) s = objectAt n s (r .object)
-objectIn n (Bad f) s = none
+abbrev pub peeledIn : ℕ → Reading → List ℕ → Option (List ℕ)
+peeledIn n (Good r) s = peeledAt n s (r .object)
+peeledIn n (Bad f) s = none
 
 abbrev pub entryOf : ℕ → Item → Entry
-entryOf n i = record { name = nameOf n i; id = take n (i .bytes); object = objectIn n (i .what) (i .bytes) }
+entryOf n i = record { name = nameOf n i; id = take n (i .bytes); peeled = peeledIn n (i .what) (i .bytes) }
 
 abbrev pub entriesOf : ℕ → List Item → List Entry
 entriesOf n [] = []
@@ -59,18 +35,18 @@ pub record Edit : Type 0 where
   pub name : List ℕ
   pub new : List Entry
 
--- "Kind byte: 0 delete, 1 update, 2 update with peeled id"; "For 1 and 2 the id in raw bytes (20 or 32), for 2 the peeled id";
--- "new ids in the sixteen lower-case digits"
-abbrev pub newOf : ℕ → ℕ → List ℕ → List ℕ → List Entry
-newOf n zero name ids = []
-newOf n (suc zero) name ids = record { name = name; id = hexText (take (n / 2) ids); object = none } ∷ []
-newOf n (suc (suc kind)) name ids =
-    record { name = name; id = hexText (take (n / 2) ids); object = some (hexText (take (n / 2) (drop (n / 2) ids))) } ∷ []
+-- by its kind, its name, its id and its peeled id in raw bytes: "0 delete, 1 update, 2 update with peeled id"; "new ids in the sixteen
+-- lower-case digits"
+abbrev pub newOf : ℕ → List ℕ → List ℕ → List ℕ → List Entry
+newOf zero name id peeled = []
+newOf (suc zero) name id peeled = record { name = name; id = hexText id; peeled = none } ∷ []
+newOf (suc (suc kind)) name id peeled = record { name = name; id = hexText id; peeled = some (hexText peeled) } ∷ []
 
 -- the edit at a place of the list
 abbrev pub editAt : ℕ → List ℕ → ℕ → Edit
 editAt n list place =
-    record { name = editName list place; new = newOf n (getD list place 0) (editName list place) (behindName list place) }
+    let name = editName list place in
+    record { name = name; new = newOf (editKind list place) name (editId n list place) (editPeeled n list place) }
 
 abbrev pub editsAt : ℕ → List ℕ → List ℕ → List Edit
 editsAt n list [] = []

@@ -4,12 +4,13 @@ use Prim.Native.Nat.{ℕ}
 use lib.ListN.{length, replicate}
 use Rattle.decode.specs.declared.reference.Fault.the-variants.{Id}
 use Rattle.header.specs.Header.{mark}
+use Rattle.lines.specs.Lines.{headerLine}
 use Rattle.merge.specs.declared.Merged.{Merged}
 use Rattle.checks.specs.declared.Refusal.the-variants.{BadHeader, BadRecord, Unsorted}
 use Rattle.change.specs.declared.Fault.the-variants.{Malformed, BadName}
 use Rattle.edit.specs.declared.list.ListFault.the-variants.{BadEdit, TooMany}
 use Rattle.merge.specs.declared.Merged.the-variants.{Done, UnknownKind, TooLarge, BadList, ShortIndex, Twins, Refused, NothingToDo, NoRecord, ShortOutput}
-use Rattle.merge.specs.Merge.{headerLine, mergeAnswer, mergeNumber, indexAnswer, outputAfter}
+use Rattle.merge.specs.Merge.{mergeAnswer, mergeNumber, indexAnswer, outputAfter}
 
 -- what is lent to a merge, its answer and the paper's number for it, and the index and the output afterwards
 pub record Case : Type 0 where

@@ -21,7 +21,8 @@ use Rattle.edit.specs.declared.list.Prepared.the-variants as prepared
 use Rattle.edit.specs.List.{editsOf, placesOf, inOrder, preparedOf, indexAfter, listFaultNumber}
 use Rattle.merge.specs.declared.Merged.{Merged}
 use Rattle.merge.specs.declared.Merged.the-variants.{Done, UnknownKind, TooLarge, BadList, ShortIndex, Twins, Refused, NothingToDo, NoRecord, ShortOutput}
-use Rattle.merge.specs.Entry.{Entry, Edit, linesOfAll, entriesOf, editsAt}
+use Rattle.lines.specs.Lines.{Entry, headerLine, fileOf}
+use Rattle.merge.specs.Entry.{Edit, entriesOf, editsAt}
 
 -- ---- the new records
 
@@ -49,16 +50,9 @@ isIdle olds (e ∷ es) = isNone (e .new) && (not (hasName (e .name) olds) && isI
 
 -- ---- the new file
 
--- "the 46 bytes `# pack-refs with: peeled fully-peeled sorted ` with LF"
-abbrev pub headerLine : List ℕ
-headerLine =
-    35 ∷ 32 ∷ 112 ∷ 97 ∷ 99 ∷ 107 ∷ 45 ∷ 114 ∷ 101 ∷ 102 ∷ 115 ∷ 32 ∷ 119 ∷ 105 ∷ 116 ∷ 104 ∷ 58 ∷ 32
-    ∷ 112 ∷ 101 ∷ 101 ∷ 108 ∷ 101 ∷ 100 ∷ 32
-    ∷ 102 ∷ 117 ∷ 108 ∷ 108 ∷ 121 ∷ 45 ∷ 112 ∷ 101 ∷ 101 ∷ 108 ∷ 101 ∷ 100 ∷ 32
-    ∷ 115 ∷ 111 ∷ 114 ∷ 116 ∷ 101 ∷ 100 ∷ 32 ∷ 10 ∷ []
-
+-- "Success: the 46 bytes [..] with LF, then the old records overridden by the edits, in name order": this is where the header is chosen
 unfoldable pub newFile : List Entry → List Edit → List ℕ
-newFile olds edits = headerLine ++ linesOfAll (overridden olds edits)
+newFile olds edits = fileOf headerLine (overridden olds edits)
 
 -- "13, 14, 12": nothing to do; no record remains; the new file is longer than the output
 unfoldable pub finished : List Entry → List Edit → ℕ → Merged

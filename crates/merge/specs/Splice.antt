@@ -9,12 +9,12 @@ use lib.ListN.{getD, length, take, drop}
 use Rattle.compare.specs.declared.order.Order.the-variants.{Less}
 use Rattle.parse.specs.Choice.{if}
 use Rattle.compare.specs.Order.{orderOf}
-use Rattle.places.specs.Name.{editName}
-use Rattle.text.specs.Text.{withoutCR}
+use Rattle.parts.specs.Parts.{editName}
+use Rattle.put.specs.Cr.{withoutCR}
+use Rattle.lines.specs.Lines.{linesOfAll}
 use Rattle.merge.specs.declared.Merged.{Merged}
 use Rattle.merge.specs.declared.Merged.the-variants.{Done, NothingToDo, NoRecord, ShortOutput}
-use Rattle.merge.specs.Entry.{linesOfAll, editAt}
-use Rattle.merge.specs.Merge.{headerLine}
+use Rattle.merge.specs.Entry.{editAt}
 
 -- ---- the new file by the marks: old bytes without their CRs up to where an edit's run starts; the edit's lines; and on from where
 -- the run ends
@@ -25,13 +25,13 @@ spliced n file list from (p ∷ ps) marks =
     withoutCR (take (getD marks 0 0 - from) (drop from file))
     ++ (linesOfAll (editAt n list p .new) ++ spliced n file list (getD marks 1 0) ps (drop 2 marks))
 
-unfoldable pub splicedFile : ℕ → List ℕ → List ℕ → ℕ → List ℕ → List ℕ → List ℕ
-splicedFile n file list body ps marks = headerLine ++ spliced n file list body ps marks
+unfoldable pub splicedFile : List ℕ → ℕ → List ℕ → List ℕ → ℕ → List ℕ → List ℕ → List ℕ
+splicedFile header n file list body ps marks = header ++ spliced n file list body ps marks
 
--- "13, 14, 12" by them
-unfoldable pub splicedAnswer : Bool → List ℕ → ℕ → Merged
-splicedAnswer still new room =
-    if still NothingToDo (if (eqb (length new) 46) NoRecord (if (ltb room (length new)) ShortOutput (Done (length new))))
+-- "13, 14, 12" by them: no record remains where the new file is its header
+unfoldable pub splicedAnswer : List ℕ → Bool → List ℕ → ℕ → Merged
+splicedAnswer header still new room =
+    if still NothingToDo (if (eqb (length new) (length header)) NoRecord (if (ltb room (length new)) ShortOutput (Done (length new))))
 
 -- ---- what the survey relies on: each edit's name is smaller than those behind it
 

@@ -19,7 +19,8 @@ use Rattle.find.specs.declared.lookup.Lookup.the-variants.{Charted, Absent}
 use Rattle.find.specs.Lookup.{lookupOf}
 use Rattle.places.specs.Order.{same}
 use Rattle.merge.specs.declared.Merged.the-variants.{Done}
-use Rattle.merge.specs.Entry.{Entry, Edit, entryOf, entriesOf}
+use Rattle.lines.specs.Lines.{Entry}
+use Rattle.merge.specs.Entry.{Edit, entryOf, entriesOf}
 use Rattle.merge.specs.Merge.{overridden, newFile, oldEntries, editsInOrder, mergeOf}
 
 -- the record of a name

@@ -4,12 +4,13 @@
 // old bytes it replaces (`runs`). From the runs it is known what the new file is, so the last refusals can be given, and the writing
 // copies old bytes between the runs as they stand (`write`).
 ghost use mathlib.Core.Path.{_≡_};
-ghost use Prim.Native.Nat.{_+_, _*_, _≤_};
+ghost use Prim.Native.Nat.{_≤_};
 ghost use lib.ListN.{length, drop};
 ghost use Rattle.class.specs.Class.{paper, classTable};
 ghost use Rattle.checks.specs.Check.{judgeBody};
 ghost use Rattle.iter.specs.Items.{items};
 ghost use Rattle.edit.specs.List.{indexAfter};
+ghost use Rattle.lines.specs.Lines.{headerLine};
 ghost use Rattle.merge.specs.Entry.{entriesOf, editsAt};
 ghost use Rattle.merge.specs.Merge.{mergeAnswer, outputAfter, indexAnswer, mergeOf, outputBy, newFile, oldEntries, editsInOrder, judged, judgedBy};
 ghost use Rattle.runs.specs.Runs.{isStill};
@@ -135,20 +136,20 @@ fn finish(
     marks: &[usize],
     out: &mut [u8],
 ) -> Merged
-    requires { ⌜ (n ≤ 64) × (length (now old) ≤ 1073741824) × (length (now list) ≤ 1073741824) × (length (now index) ≤ 4096) × (2 * length (now index) ≤ length (now marks)) ⌝ }
-    ensures { λ r. ⌜ r ≡ splicedAnswer (isStill (now (list .entry)) (now (index .entry)) (now (marks .entry))) (splicedFile n (now (old .entry)) (now (list .entry)) body (now (index .entry)) (now (marks .entry))) (length (now (out .entry))) ⌝ }
-    ensures { λ r. ⌜ now (out .exit) ≡ outputBy (splicedFile n (now (old .entry)) (now (list .entry)) body (now (index .entry)) (now (marks .entry))) (now (out .entry)) r ⌝ }
+    ensures { λ r. ⌜ r ≡ splicedAnswer headerLine (isStill (now (list .entry)) (now (index .entry)) (now (marks .entry))) (splicedFile headerLine n (now (old .entry)) (now (list .entry)) body (now (index .entry)) (now (marks .entry))) (length (now (out .entry))) ⌝ }
+    ensures { λ r. ⌜ now (out .exit) ≡ outputBy (splicedFile headerLine n (now (old .entry)) (now (list .entry)) body (now (index .entry)) (now (marks .entry))) (now (out .entry)) r ⌝ }
 {
     if runs::is_still(list, index, marks) {
         return Merged::NothingToDo;
     }
-    let len = write::write(n, old, body, list, index, marks, &mut out[0..0]);
-    if len == 46 {
+    let header = lines::header();
+    let len = write::write(&header, n, old, body, list, index, marks, &mut out[0..0]);
+    if len == header.len() {
         return Merged::NoRecord;
     }
     if out.len() < len {
         return Merged::ShortOutput;
     }
-    write::write(n, old, body, list, index, marks, out);
+    write::write(&header, n, old, body, list, index, marks, out);
     Merged::Done(len)
 }

@@ -17,10 +17,11 @@ use Rattle.iter.specs.Items.{sizeOf, itemsBehind, items}
 use Rattle.checks.specs.Check.{judgeBody, checkOf, checkAnswer}
 use Rattle.search.specs.Search.{probedOf, halve, searchOf}
 use Rattle.find.specs.Lookup.{lookupOf, lookupAnswer}
-use Rattle.places.specs.Name.{editName}
+use Rattle.length.specs.Length.{lengthAt}
+use Rattle.parts.specs.Parts.{editKind, editName, behindName}
 use Rattle.sort.specs.Sorted.{sorted}
 use Rattle.sort.specs.Twin.{firstTwin}
-use Rattle.change.specs.Change.{lengthAt, changeOf, namedChange, behindName}
+use Rattle.change.specs.Change.{changeOf, namedChange}
 use Rattle.edit.specs.List.{editsFrom, editsOf, twinsOf, preparedOf}
 use Rattle.merge.specs.Merge.{finished, oldEntries, judged, editsInOrder, mergeOf, mergeAnswer}
 use Rattle.loose.specs.Loose.{symbolicOf, looseOf, looseAnswer}

@@ -12,9 +12,9 @@ use Rattle.checks.specs.declared.Verdict.the-variants.{Clean, Refused}
 use Rattle.handed.specs.Handed.{Handed, good, error, whats}
 use Rattle.handed.specs.Run.{readOf, outOf}
 use Rattle.find.specs.Lookup.{lookupAnswer, lookupNumber}
-use Rattle.change.specs.declared.Length.{Length}
-use Rattle.change.specs.declared.Length.the-variants.{Of, Malformed}
-use Rattle.change.specs.Change.{lengthAt}
+use Rattle.length.specs.declared.Length.{Length}
+use Rattle.length.specs.declared.Length.the-variants.{Of, Malformed}
+use Rattle.length.specs.Length.{lengthAt}
 use Rattle.merge.specs.Merge.{mergeAnswer, mergeNumber}
 use Rattle.loose.specs.declared.Loose.the-variants.{Id, Symbolic, Unreadable, BadTarget}
 use Rattle.loose.specs.declared.LooseAnswer.{LooseAnswer}

@@ -1,16 +1,15 @@
 // The names that stand at places of the bytes, and the order of places by them.
 ghost use mathlib.Core.Path.{_≡_};
 ghost use Prim.Native.Nat.{_+_};
-ghost use lib.ListN.{getD, drop};
+ghost use lib.ListN.{drop};
 ghost use Rattle.compare.specs.Order.{orderOf};
-ghost use Rattle.places.specs.Name.{editName, nameOf};
+ghost use Rattle.places.specs.Name.{nameOf};
 ghost use Rattle.places.specs.Order.{same, comesFirst};
 use compare::order::Order;
 
 // How a name is found at a place of the bytes.
 pub enum Layout {
-    // An edit: kind byte, name length in one or two groups of seven bits (low group first, top bit set on the first of
-    // two), name.
+    // An edit: kind byte, name length, name (`parts`).
     Edit,
     // A record: an id of so many digits, one byte, then the name up to the first CR or LF (or the end).
     Record(usize),
@@ -43,35 +42,12 @@ pub(crate) fn compare(s: &[u8], layout: Layout, p: u32, q: u32) -> Order
     ensures { λ r. ⌜ r ≡ orderOf (nameOf layout (now (s .entry)) p) (nameOf layout (now (s .entry)) q) ⌝ }
 {
     match layout {
-        Layout::Edit => compare::order::compare(edit_name(s, p), edit_name(s, q)),
+        Layout::Edit => compare::order::compare(parts::edit_name(s, p), parts::edit_name(s, q)),
         Layout::Record(digits) => crate::text::compare(
             behind_id(s, p, digits),
             behind_id(s, q, digits),
         ),
     }
-}
-
-// The name of the edit at a place.
-pub fn edit_name(s: &[u8], p: u32) -> &[u8]
-    ensures { λ r. ⌜ now r ≡ editName (now (s .entry)) p ⌝ }
-{
-    let at = p as usize;
-    let low = byte_at(s, at + 1) as usize;
-    if low < 128 {
-        return parse::part::between(s, at + 2, at + 2 + low);
-    }
-    let high = byte_at(s, at + 2) as usize;
-    parse::part::between(s, at + 3, at + 3 + (low % 128 + 128 * high))
-}
-
-// The byte at a place, or 0 beyond the end.
-pub fn byte_at(s: &[u8], at: usize) -> u8
-    ensures { λ r. ⌜ r ≡ getD (now (s .entry)) at 0 ⌝ }
-{
-    if s.len() <= at {
-        return 0;
-    }
-    s[at]
 }
 
 // What stands behind the id of the record at a place and the one byte after it.

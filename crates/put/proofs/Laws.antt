@@ -1,13 +1,16 @@
--- The laws of texts put into bytes: one after another they are one text, and what is put keeps the length.
-use mathlib.Core.Path.{_≡_, sym, ap, _∙_}
+-- The laws of texts put into bytes: one behind another they are one text, and what is put keeps the length.
+use mathlib.Core.Path.{_≡_, refl, sym, ap, _∙_}
+use mathlib.Core.Bool.{Bool, true, false}
 use mathlib.Core.List.{List, [], _∷_, _++_}
-use Prim.Native.Nat.{ℕ, zero, suc, _+_, _-_, _≤_, _<_}
+use Prim.Native.Nat.{ℕ, zero, suc, _+_, _-_, _≤_, _<_, min}
 use native.Mathlib.Nat.{add-zero, zero-add, suc-add, add-suc, sub-zero, zero-sub, suc-sub-suc}
 use native.Mathlib.Numerals.{add-one}
 use native.Mathlib.Omega.{arith}
-use lib.ListN.{length, take, drop, set, take-append-drop}
+use lib.Dec.{leb}
+use lib.ListN.{length, take, drop, set, take-append-drop, length-append}
 use lib.Seq.{take-nil, drop-nil, take-all, set-split}
-use Rattle.put.specs.Put.{over}
+use borrow.Author.Tests.{leb-true, leb-false}
+use Rattle.put.specs.Put.{over, placeBehind}
 
 -- ---- the bytes one by one
 
@@ -68,3 +71,35 @@ over-fits d w h = rw (sub-zero, zero-add, take-all (length d) w h)
 
 pub over-byte : (d : List ℕ) (at b : ℕ) → at < length d → set d at b ≡ over d at (b ∷ [])
 over-byte d at b h = set-split d at b h ∙ rw (take-all (length d - at) (b ∷ []) (omega arith), add-one)
+
+-- ---- the place behind a text
+
+pub place-behind : (at n : ℕ) → placeBehind at n ≡ min (at + n) 18446744073709551615
+unfolding placeBehind
+place-behind at n = refl
+
+-- where it is not the sum, both are beyond the end
+over-behind : (d : List ℕ) (at n : ℕ) (w : List ℕ) → length d ≤ 18446744073709551615 → over d (placeBehind at n) w ≡ over d (at + n) w
+over-behind d at n w h = go (leb (at + n) 18446744073709551615) refl
+  where
+    go : (t : Bool) → leb (at + n) 18446744073709551615 ≡ t → over d (placeBehind at n) w ≡ over d (at + n) w
+    go true e =
+        let z : placeBehind at n ≡ at + n = omega (arith, place-behind at n, leb-true (at + n) 18446744073709551615 e) in
+        ap (λ k. over d k w) z
+    go false e =
+        let far = leb-false (at + n) 18446744073709551615 e in
+        over-beyond d (placeBehind at n) w (omega (arith, place-behind at n, far)) ∙ sym (over-beyond d (at + n) w (omega (arith, far)))
+
+-- the text w is put at a place of d: the bytes then, and the place behind it
+abbrev pub Puts : List ℕ → ℕ → List ℕ → List ℕ → ℕ → Type 0
+Puts d at w d′ r = (d′ ≡ over d at w) × (r ≡ placeBehind at (length w))
+
+pub puts-then : (d d₁ d₂ : List ℕ) (at k m : ℕ) (s t : List ℕ) → length d ≤ 18446744073709551615 → Puts d at s d₁ k → Puts d₁ k t d₂ m
+    → Puts d at (s ++ t) d₂ m
+puts-then d d₁ d₂ at k m s t h p q = (
+  q .0
+      ∙ (λ i. over (p .0 i) (p .1 i) t)
+      ∙ over-behind (over d at s) at (length s) t (omega (arith, length-over d at s))
+      ∙ over-next d at s t,
+  omega (arith, p .1, q .1, place-behind at (length s), place-behind k (length t), place-behind at (length (s ++ t)), length-append s t),
+)

@@ -1,3 +1,3 @@
--- Laws is for callers; the others serve the proofs of this crate alone.
+pub mod Crs
 pub mod Laws
-mod Turns
+pub mod Turns

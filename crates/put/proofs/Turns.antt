@@ -1,20 +1,21 @@
 -- What a turn of each loop does, and what is left at its end.
 use mathlib.Core.Path.{_≡_, refl, sym, ap, _∙_}
 use mathlib.Core.Bool.{Bool, true, false}
-use mathlib.Core.List.{List, [], _∷_, _++_}
+use mathlib.Core.List.{List, [], _∷_, _++_, append-nil}
 use Prim.Native.Nat.{ℕ, suc, _+_, _-_, _/_, _%_, _≤_, _<_, min}
 use native.Mathlib.Numerals.{add-one}
 use native.Mathlib.Omega.{arith}
 use lib.Dec.{leb}
-use lib.ListN.{length, getD, take, drop, set, length-append, length-drop, drop-of-length-le}
-use lib.Seq.{drop-cons, drop-drop, length-take-le}
+use lib.ListN.{length, getD, take, drop, set, length-drop, drop-of-length-le}
+use lib.Seq.{drop-cons, drop-drop}
 use borrow.Author.Tests.{leb-true, leb-false}
 use Rattle.parse.specs.Run.{span}
 use Rattle.parse.proofs.Runs.{span-le}
-use Rattle.put.specs.Put.{over}
-use Rattle.text.specs.Text.{hexDigit, hexText, notCR, withoutCR}
-use Rattle.text.proofs.Laws.{without-piece}
-use Rattle.put.proofs.Laws.{over-nil, over-beyond, over-byte, over-twice}
+use Rattle.put.specs.Put.{over, placeBehind}
+use Rattle.hex.specs.Hex.{hexDigit, hexText}
+use Rattle.put.specs.Cr.{notCR, withoutCR}
+use Rattle.put.proofs.Crs.{without-piece}
+use Rattle.put.proofs.Laws.{over-nil, over-beyond, over-byte, over-twice, Puts, puts-then}
 
 -- ---- bytes
 
@@ -60,9 +61,6 @@ module _ (s : List ℕ) (from end : ℕ) (h : from ≤ length s) (e : end ≡ fr
   abbrev piece : List ℕ
   piece = take (end - from) (drop from s)
 
-  length-piece : length piece ≡ end - from
-  length-piece = length-take-le (end - from) (drop from s) (omega (arith, piece-fits, length-drop from s))
-
   piece-first : withoutCR (drop from s) ≡ piece ++ withoutCR (drop (end + 1) s)
   piece-first =
       let n : span notCR (drop from s) ≡ end - from = omega arith in
@@ -71,26 +69,14 @@ module _ (s : List ℕ) (from end : ℕ) (h : from ≤ length s) (e : end ≡ fr
       ∙ ap (λ m. take m (drop from s) ++ withoutCR (drop (suc m) (drop from s))) n
       ∙ ap (λ l. piece ++ withoutCR l) (drop-drop (suc (end - from)) from s ∙ ap (λ m. drop m s) k)
 
-  pub piece-turn : (d d′ : List ℕ) (at len : ℕ) → d′ ≡ over d (at + len) piece
-      → over d′ (at + (len + (end - from))) (withoutCR (drop (end + 1) s)) ≡ over d (at + len) (withoutCR (drop from s))
-  piece-turn d d′ at len p =
-      ap (λ l. over l (at + (len + (end - from))) (withoutCR (drop (end + 1) s))) p
-      ∙ over-twice d (at + len) (at + (len + (end - from))) piece (withoutCR (drop (end + 1) s)) (omega (arith, length-piece))
-      ∙ ap (over d (at + len)) (sym piece-first)
+  module _ (d d′ : List ℕ) (to to′ : ℕ) (room : length d ≤ 18446744073709551615) (put : Puts d to piece d′ to′) where
+    -- what follows the CR, put behind the piece, makes the whole
+    pub piece-turn : Puts d to (withoutCR (drop from s)) (over d′ to′ (withoutCR (drop (end + 1) s))) (placeBehind to′ (length (withoutCR (drop (end + 1) s))))
+    piece-turn = rw piece-first (puts-then d d′ _ to to′ _ piece (withoutCR (drop (end + 1) s)) room put (refl, refl))
 
-  pub length-turn : (len : ℕ) → len + (end - from) + length (withoutCR (drop (end + 1) s)) ≡ len + length (withoutCR (drop from s))
-  length-turn len = omega (arith, ap length piece-first, length-append piece (withoutCR (drop (end + 1) s)), length-piece)
-
-  -- nothing follows the last piece
-  none-left : length s ≤ end → withoutCR (drop (end + 1) s) ≡ []
-  none-left k = ap withoutCR (drop-of-length-le s {i = end + 1} (omega arith))
-
-  pub piece-last : length s ≤ end → (d d′ : List ℕ) (at len : ℕ) → d′ ≡ over d (at + len) piece
-      → d′ ≡ over d (at + len) (withoutCR (drop from s))
-  piece-last k d d′ at len p =
-      sym (over-nil d′ (at + (len + (end - from))))
-      ∙ ap (over d′ (at + (len + (end - from)))) (sym (none-left k))
-      ∙ piece-turn d d′ at len p
-
-  pub length-last : length s ≤ end → (len : ℕ) → len + (end - from) ≡ len + length (withoutCR (drop from s))
-  length-last k len = omega (arith, length-turn len, ap length (none-left k))
+    -- nothing follows the last piece
+    pub piece-last : length s ≤ end → Puts d to (withoutCR (drop from s)) d′ to′
+    piece-last k =
+        let none : withoutCR (drop (end + 1) s) ≡ [] = ap withoutCR (drop-of-length-le s {i = end + 1} (omega arith)) in
+        let all : withoutCR (drop from s) ≡ piece = piece-first ∙ ap (λ l. piece ++ l) none ∙ append-nil piece in
+        rw all put

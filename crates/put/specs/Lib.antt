@@ -1,1 +1,2 @@
+pub mod Cr
 pub mod Put

@@ -1,12 +1,64 @@
-// Texts put into lent bytes, as far as there is room. No place is too far, and no text too long.
+// Texts put into lent bytes, as far as there is room. No place is too far, and no text too long. Each function gives the place behind its text,
+// where the next one goes.
 ghost use mathlib.Core.Path.{_≡_};
 ghost use mathlib.Core.List.{_∷_, []};
-ghost use Prim.Native.Nat.{_+_, _-_, min};
+ghost use Prim.Native.Nat.{_-_, min};
 ghost use lib.ListN.{length};
-ghost use Rattle.put.specs.Put.{over};
-ghost use Rattle.text.specs.Text.{hexText, withoutCR};
+ghost use Rattle.hex.specs.Hex.{hexText};
+ghost use Rattle.put.specs.Cr.{withoutCR};
+ghost use Rattle.put.specs.Put.{over, placeBehind};
 
-pub fn byte(out: &mut [u8], at: usize, b: u8)
+mod cr;
+
+pub fn byte(out: &mut [u8], at: usize, b: u8) -> usize
+    ensures { λ r. ⌜ (now (out .exit) ≡ over (now (out .entry)) at (b ∷ [])) × (r ≡ placeBehind at 1) ⌝ }
+{
+    set(out, at, b);
+    place_behind(at, 1)
+}
+
+pub fn bytes(out: &mut [u8], at: usize, src: &[u8]) -> usize
+    ensures { λ r. ⌜ (now (out .exit) ≡ over (now (out .entry)) at (now (src .entry))) × (r ≡ placeBehind at (length (now (src .entry)))) ⌝ }
+{
+    copy(out, at, src);
+    place_behind(at, src.len())
+}
+
+// Raw bytes as hex digits.
+pub fn hex(out: &mut [u8], at: usize, raw: &[u8]) -> usize
+    ensures { λ r. ⌜ (now (out .exit) ≡ over (now (out .entry)) at (hexText (now (raw .entry)))) × (r ≡ placeBehind at (length (hexText (now (raw .entry))))) ⌝ }
+{
+    digits(out, at, raw);
+    place_behind(at, 2 * raw.len())
+}
+
+// Bytes without any CR. Each piece between two CRs is copied as one.
+pub fn lf(out: &mut [u8], at: usize, src: &[u8]) -> usize
+    ensures { λ r. ⌜ (now (out .exit) ≡ over (now (out .entry)) at (withoutCR (now (src .entry)))) × (r ≡ placeBehind at (length (withoutCR (now (src .entry))))) ⌝ }
+{
+    let mut from = 0;
+    let mut to = at;
+    loop {
+        let end = cr::next(src, from);
+        to = bytes(out, to, &src[from..end]);
+        if src.len() <= end {
+            return to;
+        }
+        from = end + 1;
+    }
+}
+
+// The place so many bytes behind another. Where that is no usize it is the last one, which is beyond the end of all lent bytes as well.
+fn place_behind(at: usize, n: usize) -> usize
+    ensures { λ r. ⌜ r ≡ placeBehind at n ⌝ }
+{
+    if 18446744073709551615 - at < n {
+        return 18446744073709551615;
+    }
+    at + n
+}
+
+fn set(out: &mut [u8], at: usize, b: u8)
     ensures { λ _. ⌜ now (out .exit) ≡ over (now (out .entry)) at (b ∷ []) ⌝ }
 {
     if at < out.len() {
@@ -15,7 +67,7 @@ pub fn byte(out: &mut [u8], at: usize, b: u8)
 }
 
 // The loop tests nothing else, so that it compiles to a block copy.
-pub fn bytes(out: &mut [u8], at: usize, src: &[u8])
+fn copy(out: &mut [u8], at: usize, src: &[u8])
     ensures { λ _. ⌜ now (out .exit) ≡ over (now (out .entry)) at (now (src .entry)) ⌝ }
 {
     let n = room(out.len(), at, src.len());
@@ -39,8 +91,7 @@ fn room(len: usize, at: usize, n: usize) -> usize
     len - at
 }
 
-// Raw bytes as hex digits.
-pub fn hex(out: &mut [u8], at: usize, raw: &[u8])
+fn digits(out: &mut [u8], at: usize, raw: &[u8])
     ensures { λ _. ⌜ now (out .exit) ≡ over (now (out .entry)) at (hexText (now (raw .entry))) ⌝ }
 {
     let mut i = 0;
@@ -50,39 +101,9 @@ pub fn hex(out: &mut [u8], at: usize, raw: &[u8])
             return;
         }
         let b = raw[i];
-        byte(out, o, text::digit::high(b));
-        byte(out, o + 1, text::digit::low(b));
+        set(out, o, hex::high(b));
+        set(out, o + 1, hex::low(b));
         i += 1;
         o += 2;
     }
-}
-
-// Bytes without any CR; gives how many they are. Each piece between two CRs is copied as one.
-pub fn lf(out: &mut [u8], at: usize, src: &[u8]) -> usize
-    ensures { λ r. ⌜ (now (out .exit) ≡ over (now (out .entry)) at (withoutCR (now (src .entry)))) × (r ≡ length (withoutCR (now (src .entry)))) ⌝ }
-{
-    let mut from = 0;
-    let mut len = 0;
-    loop {
-        let end = text::cr::next(src, from);
-        behind(out, at, len, &src[from..end]);
-        len += end - from;
-        if src.len() <= end {
-            return len;
-        }
-        from = end + 1;
-    }
-}
-
-// Puts bytes at a distance from a place, though the sum of the two may be no usize.
-fn behind(out: &mut [u8], at: usize, len: usize, src: &[u8])
-    ensures { λ _. ⌜ now (out .exit) ≡ over (now (out .entry)) (at + len) (now (src .entry)) ⌝ }
-{
-    if out.len() <= at {
-        return;
-    }
-    if out.len() - at <= len {
-        return;
-    }
-    bytes(out, at + len, src);
 }

@@ -8,7 +8,7 @@ use lib.ListN.{getD, length, drop, drop-of-length-le}
 use lib.Seq.{drop-cons}
 use Rattle.compare.specs.declared.order.Order.the-variants.{Less, Equal, Greater}
 use Rattle.compare.specs.Order.{orderOf}
-use Rattle.places.specs.Name.{editName}
+use Rattle.parts.specs.Parts.{editName}
 use Rattle.put.specs.Put.{over}
 use Rattle.put.proofs.Laws.{over-nil, over-twice}
 use Rattle.runs.specs.Runs.{Run, run, settles, atEnd, marksOf}

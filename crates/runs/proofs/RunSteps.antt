@@ -7,7 +7,7 @@ use lib.ListN.{length, drop, length-append, length-drop}
 use Rattle.compare.specs.declared.order.Order.the-variants.{Less, Equal, Greater}
 use Rattle.compare.specs.Order.{orderOf}
 use Rattle.iter.specs.Items.{Item, nameOf}
-use Rattle.places.specs.Name.{editName}
+use Rattle.parts.specs.Parts.{editName}
 use Rattle.runs.specs.Runs.{run, settles, atEnd, runsOf}
 use Rattle.runs.proofs.RunTurns.{settles-le}
 

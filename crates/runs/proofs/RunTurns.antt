@@ -26,7 +26,7 @@ use Rattle.checks.specs.Check.{orElse, judge, judgeBody}
 use Rattle.checks.proofs.CheckTurns.{Spot, Stopped}
 use Rattle.put.specs.Put.{over}
 use Rattle.put.proofs.Laws.{over-nil, over-twice}
-use Rattle.places.specs.Name.{editName}
+use Rattle.parts.specs.Parts.{editName}
 use Rattle.runs.specs.Runs.{Run, run, settles, atEnd, runsOf, untilFault, surveyed, marksOf}
 
 pub marks-append : (a b : List Run) → marksOf (a ++ b) ≡ marksOf a ++ marksOf b

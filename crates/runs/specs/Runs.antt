@@ -9,7 +9,7 @@ use Rattle.compare.specs.Order.{orderOf, smaller, byOrder}
 use Rattle.decode.specs.declared.reference.Reading.{Reading}
 use Rattle.decode.specs.declared.reference.Reading.the-variants.{Good, Bad}
 use Rattle.iter.specs.Items.{Item, nameOf}
-use Rattle.places.specs.Name.{editName}
+use Rattle.parts.specs.Parts.{editKind, editName}
 
 pub record Run : Type 0 where
   pub from : ℕ
@@ -60,4 +60,4 @@ marksOf (r ∷ l) = r .from ∷ r .to ∷ marksOf l
 abbrev pub isStill : List ℕ → List ℕ → List ℕ → Bool
 isStill list [] marks = true
 isStill list (p ∷ ps) marks =
-    eqb (getD list p 0) 0 && (eqb (getD marks 0 0) (getD marks 1 0) && isStill list ps (drop 2 marks))
+    eqb (editKind list p) 0 && (eqb (getD marks 0 0) (getD marks 1 0) && isStill list ps (drop 2 marks))

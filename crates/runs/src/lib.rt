@@ -65,7 +65,7 @@ fn settle(
 {
     let mut j = from;
     while j < index.len() {
-        match compare::order::compare(name, places::name::edit_name(list, index[j])) {
+        match compare::order::compare(name, parts::edit_name(list, index[j])) {
             Order::Less => {
                 return j;
             }
@@ -108,7 +108,7 @@ fn mark(marks: &mut [usize], at: usize, from: usize, to: usize)
 }
 
 // The mark at a place, or 0 behind them all.
-fn mark_at(marks: &[usize], at: usize) -> usize
+pub fn mark_at(marks: &[usize], at: usize) -> usize
     ensures { λ r. ⌜ r ≡ getD (now (marks .entry)) at 0 ⌝ }
 {
     if at < marks.len() {
@@ -123,7 +123,7 @@ pub fn is_still(list: &[u8], index: &[u32], marks: &[usize]) -> bool
 {
     let mut j = 0;
     while j < index.len() {
-        if kind_at(list, index[j]) != 0 {
+        if parts::edit_kind(list, index[j]) != 0 {
             return false;
         }
         if mark_at(marks, 2 * j) != mark_at(marks, 2 * j + 1) {
@@ -132,11 +132,4 @@ pub fn is_still(list: &[u8], index: &[u32], marks: &[usize]) -> bool
         j += 1;
     }
     true
-}
-
-// The kind of the edit at a place.
-pub fn kind_at(list: &[u8], place: u32) -> u8
-    ensures { λ r. ⌜ r ≡ getD (now (list .entry)) place 0 ⌝ }
-{
-    places::name::byte_at(list, place as usize)
 }

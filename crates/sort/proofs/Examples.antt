@@ -6,7 +6,9 @@ use lib.ListN.{replicate}
 use Rattle.class.specs.Class.{isLineEnd}
 use Rattle.places.specs.declared.name.Layout.the-variants.{Edit, Record}
 use Rattle.sort.specs.declared.twin.Twin.the-variants.{At, Nothing}
-use Rattle.places.specs.Name.{editName, textOf, nameOf}
+use Rattle.length.specs.Length.{lengthAt}
+use Rattle.parts.specs.Parts.{editName}
+use Rattle.places.specs.Name.{textOf, nameOf}
 use Rattle.places.specs.Order.{before, comesFirst}
 use Rattle.sort.specs.Sorted.{sorted}
 use Rattle.sort.specs.Twin.{firstTwin}
@@ -17,28 +19,28 @@ edits : List ℕ
 edits = 1 ∷ 1 ∷ 98 ∷ 1 ∷ 1 ∷ 97 ∷ 1 ∷ 2 ∷ 97 ∷ 98 ∷ 2 ∷ 1 ∷ 97 ∷ 1 ∷ 0 ∷ []
 
 the-name-of-an-edit : nameOf Edit edits 6 ≡ 97 ∷ 98 ∷ []
-unfolding edits editName
+unfolding edits lengthAt editName
 the-name-of-an-edit = refl
 
 no-name-beyond-the-end : nameOf Edit edits 4000000000 ≡ []
-unfolding edits editName
+unfolding edits lengthAt editName
 no-name-beyond-the-end = refl
 
 -- a second group counts 128 bytes each: 130 is 2 and 1
 a-long-name : nameOf Edit (1 ∷ 130 ∷ 1 ∷ replicate 200 97) 0 ≡ replicate 130 97
-unfolding editName
+unfolding lengthAt editName
 a-long-name = refl
 
 edits-in-order : sorted (comesFirst Edit edits) (10 ∷ 0 ∷ 3 ∷ 13 ∷ 6 ∷ []) ≡ 13 ∷ 3 ∷ 10 ∷ 6 ∷ 0 ∷ []
-unfolding edits editName before sorted
+unfolding edits lengthAt editName before sorted
 edits-in-order = refl
 
 the-second-of-two : firstTwin (nameOf Edit edits) (13 ∷ 3 ∷ 10 ∷ 6 ∷ 0 ∷ []) ≡ At 10
-unfolding edits editName firstTwin
+unfolding edits lengthAt editName firstTwin
 the-second-of-two = refl
 
 no-neighbours-alike : firstTwin (nameOf Edit edits) (3 ∷ 6 ∷ 10 ∷ []) ≡ Nothing
-unfolding edits editName firstTwin
+unfolding edits lengthAt editName firstTwin
 no-neighbours-alike = refl
 
 -- ---- records of ids of two digits: `b` with LF, `a` with CR LF, `ab` up to the end, at the places 0, 5 and 11

@@ -1,7 +1,8 @@
 //! Runs the program, and gives it files to work on.
 #![allow(dead_code)]
 use std::io::Write;
-use std::path::PathBuf;
+use std::os::unix::process::ExitStatusExt;
+use std::path::{Path, PathBuf};
 use std::process::{Command, Output, Stdio};
 use std::sync::atomic::{AtomicUsize, Ordering};
 
@@ -9,7 +10,7 @@ pub const PROGRAM: &str = env!("CARGO_BIN_EXE_packed-refs");
 
 #[derive(Debug)]
 pub struct Ran {
-    /// The exit status, or -1 where a signal ended it.
+    /// The exit status, or the number of the signal that ended it, made negative.
     pub status: i32,
     pub out: String,
     pub err: String,
@@ -27,7 +28,7 @@ impl Ran {
 impl From<Output> for Ran {
     fn from(output: Output) -> Ran {
         Ran {
-            status: output.status.code().unwrap_or(-1),
+            status: output.status.code().or(output.status.signal().map(|signal| -signal)).expect("it ended"),
             out: String::from_utf8(output.stdout).expect("output is text"),
             err: String::from_utf8(output.stderr).expect("messages are text"),
         }
@@ -42,6 +43,32 @@ pub fn run(args: &[&str], input: &[u8]) -> Ran {
     let _ = program.stdin.take().expect("a pipe").write_all(input);
     program.wait_with_output().expect("the program ends").into()
 }
+
+/// Runs a line of shell in which `"$@"` is the program with these arguments.
+pub fn shell(line: &str, args: &[&str]) -> Ran {
+    let ran = Command::new("bash").args(["-c", line, "bash", PROGRAM]).args(args).stdin(Stdio::null()).output();
+    ran.expect("bash starts").into()
+}
+
+/// Builds a library of tests/ that stands between the program and the system, by LD_PRELOAD.
+pub fn shim(dir: &Dir, source: &str) -> String {
+    let shim = dir.path(&format!("{source}.so"));
+    let source = Path::new(env!("CARGO_MANIFEST_DIR")).join("tests").join(source);
+    let built = Command::new("cc").args(["-shared", "-fPIC", "-O1", "-Wall", "-Werror", "-o", &shim]).arg(source).status();
+    assert!(built.expect("a C compiler, cc").success());
+    shim
+}
+
+pub fn id(digit: char) -> String {
+    digit.to_string().repeat(40)
+}
+
+/// A record with an id of one digit, and no peeled id.
+pub fn record(digit: char, name: &str) -> String {
+    format!("{} {name}\n", id(digit))
+}
+
+pub const HEADER: &str = "# pack-refs with: peeled fully-peeled sorted \n";
 
 /// A directory of one test's own, removed behind it.
 pub struct Dir(PathBuf);

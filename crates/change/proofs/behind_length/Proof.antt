@@ -2,13 +2,14 @@
 use mathlib.Core.Path.{_≡_, sym, ap, _∙_}
 use mathlib.Core.Bool.{true}
 use mathlib.Core.List.{List}
-use Prim.Native.Nat.{ℕ, _+_, _-_, _≤_}
+use Prim.Native.Nat.{ℕ, _+_, _≤_}
 use native.Mathlib.Omega.{arith}
 use borrow.Author.Tests.{not-true, not-false, leb-true}
 use lib.Dec.{leb}
-use lib.ListN.{length, take, drop}
+use lib.ListN.{length}
 use Rattle.class.specs.Class.{Classes, classesOf}
 use Rattle.name.specs.Name.{validName}
+use Rattle.parts.specs.Parts.{editName}
 use Rattle.change.proofs.Changes.{empty-name, long-name, cut-short, bad-name, good-name}
 use borrow.Author.Needs.{needs}
 use Rattle.change.proofs.behind_length.Statement.{statement}
@@ -24,7 +25,7 @@ module _ (b : tie.Start) where
   s = b .args .s .now
 
   abbrev name : List ℕ
-  name = take (b .args .len) (drop (b .args .from) s)
+  name = editName s 0
 
   abbrev end : ℕ
   end = b .args .from + b .args .len + b .args .ids
@@ -53,14 +54,8 @@ module _ (v : tie.After-is-valid-by) where
   abbrev its-start : tie.Start
   its-start = start (sized full)
 
-  name-is : v .before .between .result .now ≡ name its-start
-  name-is =
-      let a = its-start .args in
-      let size : a .from + a .len - a .from ≡ a .len = omega arith in
-      v .before .between .ensures ∙ ap (λ k. take k (drop (a .from) (a .s .now))) size
-
   valid-is : validName (byte its-start) (name its-start) ≡ v .is-valid-by .result
-  valid-is = ap (validName (byte its-start)) (sym name-is) ∙ sym (v .is-valid-by .ensures)
+  valid-is = ap (validName (byte its-start)) (sym (v .before .edit-name .ensures)) ∙ sym (v .is-valid-by .ensures)
 
 returns : tie.Need-returns
 returns c = let b = c .before .before in let a = b .args in sym (empty-name (byte b) (s b) (a .kind) (a .from) (a .len) (a .ids) (c .if1 .taken))
@@ -83,11 +78,8 @@ returns-3 c =
     (cut-short (byte b) (s b) (a .kind) (a .from) (a .len) (a .ids) (e .before .if1 .left) (e .if2 .left)
     (sym (c .before .stands .ensures) ∙ not-true _ (c .if3 .taken)))
 
-add-between : tie.Need-add-between
-add-between c = omega (arith, inside c, start (sized c) .good)
-
-between-requires : tie.Need-between-requires
-between-requires c κs = search needs
+edit-name-requires : tie.Need-edit-name-requires
+edit-name-requires c κs = search needs
 
 is-valid-by-requires : tie.Need-is-valid-by-requires
 is-valid-by-requires c κs = search needs
@@ -121,4 +113,4 @@ returns-5 c =
 pub behind-length-spec : {M : Type 1} → statement M
 behind-length-spec =
     tie.close
-    (tie.spec returns returns-2 stands-requires returns-3 add-between between-requires is-valid-by-requires returns-4 add-size add-size-2 returns-5)
+    (tie.spec returns returns-2 stands-requires returns-3 edit-name-requires is-valid-by-requires returns-4 add-size add-size-2 returns-5)

@@ -1,12 +1,13 @@
 -- `change::read` meets its contract: each return hands on what the parts before it said.
 use mathlib.Core.Path.{_≡_, sym, ap, _∙_}
 use mathlib.Core.List.{List}
-use Prim.Native.Nat.{ℕ, _*_, _/_}
+use Prim.Native.Nat.{ℕ, _*_, _/_, _≤_}
 use native.Mathlib.Omega.{arith}
-use lib.ListN.{getD}
 use Rattle.class.specs.Class.{Classes, classesOf}
-use Rattle.change.specs.declared.Length.the-variants.{Of}
-use Rattle.change.specs.Change.{lengthAt, idBytes, namedChange}
+use Rattle.length.specs.declared.Length.the-variants.{Of}
+use Rattle.length.specs.Length.{lengthAt}
+use Rattle.parts.specs.Parts.{editKind}
+use Rattle.change.specs.Change.{idBytes, namedChange}
 use Rattle.change.proofs.Changes.{nothing, bad-kind, bad-length, good-length, ids-le}
 use borrow.Author.Needs.{needs}
 use Rattle.change.proofs.read.Statement.{statement}
@@ -29,6 +30,12 @@ module _ (l : tie.After-length-at) where
   abbrev start : tie.Start
   start = l .before .before .before .before .before
 
+  kind-is : l .before .before .edit-kind .result ≡ editKind (s start) 0
+  kind-is = l .before .before .edit-kind .ensures
+
+  known : editKind (s start) 0 ≤ 2
+  known = omega (arith, kind-is, l .before .if2 .left)
+
 -- the length is there, and the kind's number
 module _ (w : tie.After-wide) where
   abbrev told : tie.After-length-at
@@ -43,17 +50,17 @@ module _ (w : tie.After-wide) where
   measure : lengthAt (s (start told)) 1 ≡ Of len from
   measure = sym (told .length-at .ensures) ∙ w .before .before .value .given .1
 
-  ids : w .wide .result * (n (start told) / 2) ≡ idBytes (getD (s (start told)) 0 0) (n (start told))
-  ids = ap (λ k. k * (n (start told) / 2)) (w .wide .ensures .0)
+  ids : w .wide .result * (n (start told) / 2) ≡ idBytes (editKind (s (start told)) 0) (n (start told))
+  ids = ap (λ k. k * (n (start told) / 2)) (w .wide .ensures .0 ∙ kind-is told)
 
 returns : tie.Need-returns
 returns c = let b = c .before .before in sym (nothing (byte b) (n b) (s b) (c .if1 .taken))
 
-shared-slice-read-kind : tie.Need-shared-slice-read-kind
-shared-slice-read-kind c = search needs
+edit-kind-requires : tie.Need-edit-kind-requires
+edit-kind-requires c κs = search needs
 
 returns-2 : tie.Need-returns-2
-returns-2 c = let b = c .before .before .before .before in sym (bad-kind (byte b) (n b) (s b) (c .if2 .taken))
+returns-2 c = let b = c .before .before .before .before in sym (bad-kind (byte b) (n b) (s b) (omega (arith, c .before .edit-kind .ensures, c .if2 .taken)))
 
 length-at-requires : tie.Need-length-at-requires
 length-at-requires c κs = search needs
@@ -68,7 +75,7 @@ returns-3 : tie.Need-returns-3
 returns-3 c =
     let l = c .before .before in
     let b = start l in
-    sym (bad-length (byte b) (n b) (s b) (search needs) (l .before .if2 .left) (sym (l .length-at .ensures) ∙ c .enum-told .given .1))
+    sym (bad-length (byte b) (n b) (s b) (search needs) (known l) (sym (l .length-at .ensures) ∙ c .enum-told .given .1))
 
 wide-requires : tie.Need-wide-requires
 wide-requires c κs = search needs
@@ -76,7 +83,7 @@ wide-requires c κs = search needs
 mul-behind-length : tie.Need-mul-behind-length
 mul-behind-length c =
     let b = start (told c) in
-    omega (arith, ids c, ids-le (getD (s b) 0 0) (n b) (told c .before .if2 .left), b .good, b .fits)
+    omega (arith, ids c, ids-le (editKind (s b) 0) (n b) (known (told c)), b .good, b .fits)
 
 behind-length-requires : tie.Need-behind-length-requires
 behind-length-requires c κs = search needs
@@ -86,15 +93,15 @@ returns-4 c =
     let w = c .before in
     let b = start (told w) in
     c .behind-length .ensures
-    ∙ ap (namedChange (byte b) (s b) (getD (s b) 0 0) (from w) (len w)) (ids w)
-    ∙ sym (good-length (byte b) (n b) (s b) (search needs) (told w .before .if2 .left) (measure w))
+    ∙ (λ i. namedChange (byte b) (s b) (kind-is (told w) i) (from w) (len w) (ids w i))
+    ∙ sym (good-length (byte b) (n b) (s b) (search needs) (known (told w)) (measure w))
 
 pub read-spec : {M : Type 1} → statement M
 read-spec =
     tie.close
     (tie.spec
     returns
-    shared-slice-read-kind
+    edit-kind-requires
     returns-2
     length-at-requires
     enum-known-value

@@ -7,7 +7,8 @@ use Rattle.class.specs.Class.{paper}
 use Rattle.class.proofs.Classes.{by-paper}
 use Rattle.checks.specs.Check.{judgeBody}
 use Rattle.iter.specs.Items.{items}
-use Rattle.merge.specs.Entry.{Entry, Edit, entriesOf, editsAt}
+use Rattle.lines.specs.Lines.{Entry}
+use Rattle.merge.specs.Entry.{Edit, entriesOf, editsAt}
 use Rattle.put.specs.Put.{over}
 use Rattle.merge.specs.Merge.{judgedBy, outputBy}
 use Rattle.runs.specs.Runs.{surveyed, marksOf}

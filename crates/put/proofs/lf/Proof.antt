@@ -1,70 +1,71 @@
 -- `put::lf` meets its contract: what is left of src, put behind what is put already, makes what is wanted.
-use mathlib.Core.Path.{_≡_, refl, ap, _∙_}
-use Prim.Native.Nat.{_+_, _-_, _≤_}
-use native.Mathlib.Nat.{add-zero, zero-add}
+use mathlib.Core.Path.{_≡_, refl, _∙_}
+use Prim.Native.Nat.{_-_, _≤_}
+use native.Mathlib.Omega.{arith}
 use lib.ListN.{length, drop}
-use Rattle.put.specs.Put.{over}
-use Rattle.text.specs.Text.{withoutCR}
-use Rattle.put.proofs.Turns.{piece-fits, piece-turn, piece-last, length-turn, length-last}
+use Rattle.put.specs.Put.{over, placeBehind}
+use Rattle.put.specs.Cr.{withoutCR}
+use Rattle.put.proofs.Turns.{piece-fits, piece-turn, piece-last}
 use borrow.Author.Needs.{needs}
 use Rattle.put.proofs.lf.Statement.{statement}
 use Rattle.put.proofs.lf.Tie as tie
 
 abbrev Inv-loop : tie.InvT-loop
-Inv-loop out₀ at src from₀ len₀ out from len =
+Inv-loop out₀ at src from₀ to₀ out from to =
     (from ≤ length src)
-    × (len ≤ from)
     × (length out ≡ length out₀)
-    × (over out (at + len) (withoutCR (drop from src)) ≡ over out₀ at (withoutCR src))
-    × (len + length (withoutCR (drop from src)) ≡ length (withoutCR src))
+    × (over out to (withoutCR (drop from src)) ≡ over out₀ at (withoutCR src))
+    × (placeBehind to (length (withoutCR (drop from src))) ≡ placeBehind at (length (withoutCR src)))
 
 abbrev μ-loop : tie.MeasureT-loop
-μ-loop out₀ at src from₀ len₀ out from len = length src - from
+μ-loop out₀ at src from₀ to₀ out from to = length src - from
+
+-- a piece is put
+module _ (p : tie.After-bytes Inv-loop μ-loop) where
+  abbrev found : tie.After-next Inv-loop μ-loop
+  found = p .before .before .before
+
+  abbrev turn : tie.At-loop Inv-loop μ-loop
+  turn = found .before
+
+  abbrev start : tie.Start Inv-loop μ-loop
+  start = turn .before .before .before
+
+  room : length (turn .loop .out) ≤ 18446744073709551615
+  room = omega (arith, start .good, turn .loop .inv .1)
 
 loop-holds : tie.Need-loop-holds Inv-loop μ-loop
-loop-holds c =
-    let a = c .before .before .args in
-    (search needs, search needs, refl, ap (λ k. over (a .out .now) k (withoutCR (a .src .now))) (add-zero (a .at)), zero-add _)
+loop-holds c = (search needs, refl, refl, refl)
 
 next-requires : tie.Need-next-requires Inv-loop μ-loop
 next-requires c κs = search needs
 
-sub-behind : tie.Need-sub-behind Inv-loop μ-loop
-sub-behind c = search needs
+sub-bytes : tie.Need-sub-bytes Inv-loop μ-loop
+sub-bytes c = search needs
 
-part-behind-start : tie.Need-part-behind-start Inv-loop μ-loop
-part-behind-start c = search needs
+part-bytes-start : tie.Need-part-bytes-start Inv-loop μ-loop
+part-bytes-start c = search needs
 
-part-behind-end : tie.Need-part-behind-end Inv-loop μ-loop
-part-behind-end c =
+part-bytes-end : tie.Need-part-bytes-end Inv-loop μ-loop
+part-bytes-end c =
     let l = c .before .before in
     piece-fits (l .before .before .before .args .src .now) (l .loop .from) (c .before .next .result) (l .loop .inv .0) (c .before .next .ensures)
 
-behind-requires : tie.Need-behind-requires Inv-loop μ-loop
-behind-requires c κs = search needs
-
-sub-len : tie.Need-sub-len Inv-loop μ-loop
-sub-len c = search needs
-
-add-len : tie.Need-add-len Inv-loop μ-loop
-add-len c = search needs
+bytes-requires : tie.Need-bytes-requires Inv-loop μ-loop
+bytes-requires c κs = search needs
 
 same-length : tie.Need-same-length Inv-loop μ-loop
-same-length c =
-    let put = c .before .before .before in
-    put .behind .kept .0 ∙ put .before .before .before .before .loop .inv .2
+same-length c = search needs
 
 returns : tie.Need-returns Inv-loop μ-loop
 returns c =
-    let put = c .before .before .before in
-    let found = put .before .before .before in
-    let l = found .before in
-    let a = l .before .before .before .args in (
-      piece-last (a .src .now) (l .loop .from) (found .next .result) (l .loop .inv .0) (found .next .ensures) (c .if1 .taken) (l .loop .out) _ (a .at) (l .loop .len) (put .behind .ensures)
-          ∙ l .loop .inv .3,
-      length-last (a .src .now) (l .loop .from) (found .next .result) (l .loop .inv .0) (found .next .ensures) (c .if1 .taken) (l .loop .len)
-          ∙ l .loop .inv .4,
-    )
+    let p = c .before .before .before in
+    let l = turn p in
+    let last =
+    piece-last (start p .args .src .now) (l .loop .from) (found p .next .result) (l .loop .inv .0) (found p .next .ensures)
+    (l .loop .out) _ (l .loop .to) _ (room p) (p .bytes .ensures) (c .if1 .taken)
+    in
+    (last .0 ∙ l .loop .inv .2, last .1 ∙ l .loop .inv .3)
 
 add-from : tie.Need-add-from Inv-loop μ-loop
 add-from c = search needs
@@ -74,17 +75,13 @@ loop-less c = search needs
 
 loop-again : tie.Need-loop-again Inv-loop μ-loop
 loop-again c =
-    let put = c .before .before .before in
-    let found = put .before .before .before in
-    let l = found .before in
-    let a = l .before .before .before .args in (
-      search needs,
-      search needs,
-      put .behind .kept .0 ∙ l .loop .inv .2,
-      piece-turn (a .src .now) (l .loop .from) (found .next .result) (l .loop .inv .0) (found .next .ensures) (l .loop .out) _ (a .at) (l .loop .len) (put .behind .ensures)
-          ∙ l .loop .inv .3,
-      length-turn (a .src .now) (l .loop .from) (found .next .result) (l .loop .inv .0) (found .next .ensures) (l .loop .len) ∙ l .loop .inv .4,
-    )
+    let p = c .before .before .before in
+    let l = turn p in
+    let t =
+    piece-turn (start p .args .src .now) (l .loop .from) (found p .next .result) (l .loop .inv .0) (found p .next .ensures)
+    (l .loop .out) _ (l .loop .to) _ (room p) (p .bytes .ensures)
+    in
+    (search needs, p .bytes .kept .0 ∙ l .loop .inv .1, t .0 ∙ l .loop .inv .2, t .1 ∙ l .loop .inv .3)
 
 pub lf-spec : {M : Type 1} → statement M
 lf-spec =
@@ -94,12 +91,10 @@ lf-spec =
     μ-loop
     loop-holds
     next-requires
-    sub-behind
-    part-behind-start
-    part-behind-end
-    behind-requires
-    sub-len
-    add-len
+    sub-bytes
+    part-bytes-start
+    part-bytes-end
+    bytes-requires
     same-length
     returns
     add-from

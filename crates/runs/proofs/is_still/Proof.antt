@@ -28,7 +28,7 @@ module _ (l : tie.At-loop Inv-loop μ-loop) where
   marks = l .before .before .before .before .args .marks .now
 
 -- the edit's kind is read
-module _ (k : tie.After-kind-at Inv-loop μ-loop) where
+module _ (k : tie.After-edit-kind Inv-loop μ-loop) where
   abbrev turn : tie.At-loop Inv-loop μ-loop
   turn = k .before .before .before
 
@@ -38,20 +38,20 @@ module _ (k : tie.After-kind-at Inv-loop μ-loop) where
 loop-holds : tie.Need-loop-holds Inv-loop μ-loop
 loop-holds c = (search needs, refl)
 
-mul-kind-at : tie.Need-mul-kind-at Inv-loop μ-loop
-mul-kind-at c = search needs
+mul-edit-kind : tie.Need-mul-edit-kind Inv-loop μ-loop
+mul-edit-kind c = search needs
 
-shared-slice-read-kind-at : tie.Need-shared-slice-read-kind-at Inv-loop μ-loop
-shared-slice-read-kind-at c = search needs
+shared-slice-read-edit-kind : tie.Need-shared-slice-read-edit-kind Inv-loop μ-loop
+shared-slice-read-edit-kind c = search needs
 
-kind-at-requires : tie.Need-kind-at-requires Inv-loop μ-loop
-kind-at-requires c κs = search needs
+edit-kind-requires : tie.Need-edit-kind-requires Inv-loop μ-loop
+edit-kind-requires c κs = search needs
 
 returns : tie.Need-returns Inv-loop μ-loop
 returns c =
     let k = c .before in
     let l = turn k in
-    sym (still-update (list l) (index l) (marks l) (l .loop .j) (inside k) (λ z. c .if1 .taken (k .kind-at .ensures ∙ z))) ∙ l .loop .inv .1
+    sym (still-update (list l) (index l) (marks l) (l .loop .j) (inside k) (λ z. c .if1 .taken (k .edit-kind .ensures ∙ z))) ∙ l .loop .inv .1
 
 mul-mark-at : tie.Need-mul-mark-at Inv-loop μ-loop
 mul-mark-at c = search needs
@@ -74,7 +74,7 @@ returns-2 c =
     let k = m .before .before .before in
     let l = turn k in
     let differ : getD (marks l) (2 * l .loop .j) 0 ≡ getD (marks l) (2 * l .loop .j + 1) 0 → ⊥ = λ z. c .if2 .taken (m .before .mark-at .ensures ∙ z ∙ sym (m .mark-at2 .ensures)) in
-    sym (still-run (list l) (index l) (marks l) (l .loop .j) (inside k) (sym (k .kind-at .ensures) ∙ m .before .before .if1 .left) differ) ∙ l .loop .inv .1
+    sym (still-run (list l) (index l) (marks l) (l .loop .j) (inside k) (sym (k .edit-kind .ensures) ∙ m .before .before .if1 .left) differ) ∙ l .loop .inv .1
 
 add-j : tie.Need-add-j Inv-loop μ-loop
 add-j c = search needs
@@ -88,7 +88,7 @@ loop-again c =
     let k = m .before .before .before in
     let l = turn k in
     let same = sym (m .before .mark-at .ensures) ∙ c .if2 .left ∙ m .mark-at2 .ensures in
-    (search needs, sym (still-on (list l) (index l) (marks l) (l .loop .j) (inside k) (sym (k .kind-at .ensures) ∙ m .before .before .if1 .left) same) ∙ l .loop .inv .1)
+    (search needs, sym (still-on (list l) (index l) (marks l) (l .loop .j) (inside k) (sym (k .edit-kind .ensures) ∙ m .before .before .if1 .left) same) ∙ l .loop .inv .1)
 
 returns-3 : tie.Need-returns-3 Inv-loop μ-loop
 returns-3 c =
@@ -102,9 +102,9 @@ is-still-spec =
     Inv-loop
     μ-loop
     loop-holds
-    mul-kind-at
-    shared-slice-read-kind-at
-    kind-at-requires
+    mul-edit-kind
+    shared-slice-read-edit-kind
+    edit-kind-requires
     returns
     mul-mark-at
     mark-at-requires

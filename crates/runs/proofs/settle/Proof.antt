@@ -4,7 +4,7 @@ use mathlib.Core.List.{List}
 use Prim.Native.Nat.{ℕ, _-_, _<_}
 use lib.ListN.{getD, length, drop}
 use Rattle.compare.specs.Order.{orderOf}
-use Rattle.places.specs.Name.{editName}
+use Rattle.parts.specs.Parts.{editName}
 use Rattle.runs.specs.Runs.{Run, settles}
 use Rattle.runs.proofs.Marks.{Going, begin, ends, ends-with, goes-on, settles-end, settles-less, settles-equal, settles-greater}
 use borrow.Author.Needs.{needs}

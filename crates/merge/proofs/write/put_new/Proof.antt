@@ -1,23 +1,22 @@
 -- `merge::write::put_new` meets its contract: the lines that are put are those of the edit's kind.
 use mathlib.Core.Path.{_≡_, sym, ap, _∙_}
 use mathlib.Core.List.{List}
-use Prim.Native.Nat.{ℕ, _+_, _-_, _/_, _≤_}
-use native.Mathlib.Nat.{sub-zero}
+use Prim.Native.Nat.{ℕ}
 use native.Mathlib.Omega.{arith}
-use lib.ListN.{length, getD, take, drop, length-append}
-use Rattle.change.specs.Change.{behindName}
+use lib.ListN.{length}
+use Rattle.parts.specs.Parts.{editKind}
+use Rattle.hex.specs.Hex.{hexText}
 use Rattle.put.specs.Put.{over}
-use Rattle.text.specs.Text.{hexText}
-use Rattle.put.proofs.Laws.{over-nil}
-use Rattle.merge.specs.Entry.{recordLine, objectLine}
-use Rattle.merge.proofs.Splice.{over-then, firstLine, secondLine, lines-none, lines-one, lines-two, length-part, length-name, length-first, length-second}
+use Rattle.put.proofs.Laws.{over-nil, place-behind, Puts, puts-then}
+use Rattle.lines.specs.Lines.{recordLine, peeledLine}
+use Rattle.merge.proofs.Splice.{puts-as, newLines, firstLine, secondLine, lines-none, lines-one, lines-two}
 use borrow.Author.Needs.{needs}
 use Rattle.merge.proofs.write.put_new.Statement.{statement}
 use Rattle.merge.proofs.write.put_new.Tie as tie
 
 -- ---- what is known at each place
 
-module _ (k : tie.After-kind-at) where
+module _ (k : tie.After-edit-kind) where
   abbrev start : tie.Start
   start = k .before .before .before
 
@@ -30,97 +29,54 @@ module _ (k : tie.After-kind-at) where
   abbrev place : ℕ
   place = start .args .place
 
-  abbrev half : ℕ
-  half = n / 2
-
-  abbrev ids : List ℕ
-  ids = behindName list place
-
   abbrev first : List ℕ
   first = firstLine n list place
 
   abbrev second : List ℕ
   second = secondLine n list place
 
-  kind-is : getD list place 0 ≡ k .kind-at .result
-  kind-is = sym (k .kind-at .ensures)
-
--- the id and the name are cut out
-module _ (q : tie.After-edit-name) where
-  abbrev kind : tie.After-kind-at
-  kind = q .before .before .before .before .before
-
-  id-is : q .before .between .result .now ≡ take (half kind) (ids kind)
-  id-is =
-      let b = q .before .before .before .behind-name in
-      q .before .between .ensures ∙ ap (λ k. take k (b .result .now)) (sub-zero (half kind)) ∙ ap (take (half kind)) (b .ensures)
-
-  id-short : length (q .before .between .result .now) ≤ 64
-  id-short = omega (arith, start kind .pre, ap length id-is, length-part (half kind) 0 (ids kind) .0)
-
-  name-short : length (q .edit-name .result .now) ≤ 1073741824
-  name-short = omega (arith, start kind .pre, ap length (q .edit-name .ensures), length-name (list kind) (place kind))
+  kind-is : editKind list place ≡ k .edit-kind .result
+  kind-is = sym (k .edit-kind .ensures)
 
 -- the first line is put
 module _ (r : tie.After-put-record) where
-  abbrev lined : tie.After-kind-at
-  lined = kind (r .before)
+  abbrev lined : tie.After-edit-kind
+  lined = r .before .before .before .before .before
 
-  first-is : recordLine (hexText (r .before .before .between .result .now)) (r .before .edit-name .result .now) ≡ first lined
-  first-is = λ i. recordLine (hexText (id-is (r .before) i)) (r .before .edit-name .ensures i)
+  first-is : recordLine (hexText (r .before .before .edit-id .result .now)) (r .before .edit-name .result .now) ≡ first lined
+  first-is = λ i. recordLine (hexText (r .before .before .edit-id .ensures i)) (r .before .edit-name .ensures i)
 
-  first-length : r .put-record .result ≡ length (first lined)
-  first-length = r .put-record .ensures .0 ∙ ap length first-is
+  first-put : Puts (start lined .args .out .now) (start lined .args .at) (first lined) (r .put-record .last .0) (r .put-record .result)
+  first-put = puts-as (start lined .args .out .now) (start lined .args .at) first-is (r .put-record .ensures)
 
-  first-short : r .put-record .result ≤ 1073741890
-  first-short = omega (arith, start lined .pre, first-length, length-first (n lined) (list lined) (place lined))
-
--- the second id is cut out
-module _ (o : tie.After-between2) where
+-- and the second
+module _ (o : tie.After-put-peeled) where
   abbrev before-it : tie.After-put-record
-  before-it = o .before .before .before .before .before
+  before-it = o .before .before .before .before .before .before
 
-  abbrev its-kind : tie.After-kind-at
-  its-kind = lined before-it
+  second-put : Puts (before-it .put-record .last .0) (before-it .put-record .result) (second (lined before-it)) (o .put-peeled .last .0) (o .put-peeled .result)
+  second-put = puts-as (before-it .put-record .last .0) (before-it .put-record .result) (ap (λ s. peeledLine (hexText s)) (o .before .edit-peeled .ensures)) (o .put-peeled .ensures)
 
-  object-is : o .between2 .result .now ≡ take (half its-kind) (drop (half its-kind) (ids its-kind))
-  object-is =
-      let b = before-it .before .before .before .before .behind-name in
-      let once : half its-kind + half its-kind - half its-kind ≡ half its-kind = omega arith in
-      o .between2 .ensures ∙ ap (λ k. take k (drop (half its-kind) (b .result .now))) once ∙ ap (λ s. take (half its-kind) (drop (half its-kind) s)) (b .ensures)
-
-  object-short : length (o .between2 .result .now) ≤ 64
-  object-short = omega (arith, start its-kind .pre, ap length object-is, length-part (half its-kind) (half its-kind) (ids its-kind) .0)
-
--- the second line is put
-module _ (o : tie.After-put-object) where
-  second-is : objectLine (hexText (o .before .between2 .result .now)) ≡ second (its-kind (o .before))
-  second-is = ap (λ s. objectLine (hexText s)) (object-is (o .before))
-
-  second-length : o .put-object .result ≡ length (second (its-kind (o .before)))
-  second-length = o .put-object .ensures .0 ∙ ap length second-is
-
-kind-at-requires : tie.Need-kind-at-requires
-kind-at-requires c κs = search needs
+edit-kind-requires : tie.Need-edit-kind-requires
+edit-kind-requires c κs = search needs
 
 returns : tie.Need-returns
 returns c =
     let k = c .before in
     let a = start k .args in
-    let none = lines-none (n k) (list k) (place k) (kind-is k ∙ c .if1 .taken) in
-    (sym (ap length none), sym (ap (over (a .out .now) (a .at)) none ∙ over-nil (a .out .now) (a .at)))
+    let none = lines-none (n k) (list k) (place k) (kind-is k ∙ c .if1 .taken) in (
+      omega (arith, place-behind (a .at) (length (newLines (n k) (list k) (place k))), ap length none, start k .fits .at),
+      sym (ap (over (a .out .now) (a .at)) none ∙ over-nil (a .out .now) (a .at)),
+    )
 
-behind-name-requires : tie.Need-behind-name-requires
-behind-name-requires c κs = search needs
-
-between-requires : tie.Need-between-requires
-between-requires c κs = search needs
+edit-id-requires : tie.Need-edit-id-requires
+edit-id-requires c κs = search needs
 
 edit-name-requires : tie.Need-edit-name-requires
 edit-name-requires c κs = search needs
 
 put-record-requires : tie.Need-put-record-requires
-put-record-requires c κs = (search needs, id-short c, name-short c)
+put-record-requires c κs = search needs
 
 same-length : tie.Need-same-length
 same-length c = search needs
@@ -129,29 +85,14 @@ returns-2 : tie.Need-returns-2
 returns-2 c =
     let r = c .before .before .before in
     let k = lined r in
-    let a = start k .args in
-    let one = first-is r ∙ sym (lines-one (n k) (list k) (place k) (kind-is k ∙ c .if2 .taken)) in
-    (r .put-record .ensures .0 ∙ ap length one, r .put-record .ensures .1 ∙ ap (over (a .out .now) (a .at)) one)
+    let one = puts-as (start k .args .out .now) (start k .args .at) (sym (lines-one (n k) (list k) (place k) (kind-is k ∙ c .if2 .taken))) (first-put r) in
+    (one .1, one .0)
 
-add-put-object : tie.Need-add-put-object
-add-put-object c =
-    let r = c .before .before .before .before in
-    omega (arith, start (lined r) .pre, first-short r)
+edit-peeled-requires : tie.Need-edit-peeled-requires
+edit-peeled-requires c κs = search needs
 
-add-between : tie.Need-add-between
-add-between c = search needs
-
-between-requires-2 : tie.Need-between-requires-2
-between-requires-2 c κs = search needs
-
-put-object-requires : tie.Need-put-object-requires
-put-object-requires c κs = (omega (arith, start (its-kind c) .pre, first-short (before-it c)), object-short c)
-
-add-result : tie.Need-add-result
-add-result c =
-    let o = c .before .before in
-    let k = its-kind (o .before) in
-    omega (arith, start k .pre, first-short (before-it (o .before)), second-length o, length-second (n k) (list k) (place k))
+put-peeled-requires : tie.Need-put-peeled-requires
+put-peeled-requires c κs = search needs
 
 same-length-2 : tie.Need-same-length-2
 same-length-2 c = search needs
@@ -159,32 +100,30 @@ same-length-2 c = search needs
 returns-3 : tie.Need-returns-3
 returns-3 c =
     let o = c .before .before in
-    let r = before-it (o .before) in
+    let r = before-it o in
     let k = lined r in
     let a = start k .args in
-    let not-none = r .before .before .before .before .before .if1 .left in
+    let not-none = r .before .before .before .before .if1 .left in
     let not-one = o .before .before .before .if2 .left in
-    let two = sym (lines-two (n k) (list k) (place k) (λ e. not-none (sym (kind-is k) ∙ e)) (λ e. not-one (sym (kind-is k) ∙ e))) in (
-      omega (arith, first-length r, second-length o, ap length two, length-append (first k) (second k)),
-      over-then (a .out .now) _ _ (a .at) (a .at + r .put-record .result) (first k) (second k) (r .put-record .ensures .1 ∙ ap (over (a .out .now) (a .at)) (first-is r)) (o .put-object .ensures .1 ∙ ap (over _ (a .at + r .put-record .result)) (second-is o)) (omega (arith, first-length r)) ∙ ap (over (a .out .now) (a .at)) two,
-    )
+    let two = lines-two (n k) (list k) (place k) (λ e. not-none (sym (kind-is k) ∙ e)) (λ e. not-one (sym (kind-is k) ∙ e)) in
+    let both =
+    puts-as (a .out .now) (a .at) (sym two)
+    (puts-then (a .out .now) _ _ (a .at) _ _ (first k) (second k) (omega (arith, start k .good)) (first-put r) (second-put o))
+    in
+    (both .1, both .0)
 
 pub put-new-spec : {M : Type 1} → statement M
 put-new-spec =
     tie.close
     (tie.spec
-    kind-at-requires
+    edit-kind-requires
     returns
-    behind-name-requires
-    between-requires
+    edit-id-requires
     edit-name-requires
     put-record-requires
     same-length
     returns-2
-    add-put-object
-    add-between
-    between-requires-2
-    put-object-requires
-    add-result
+    edit-peeled-requires
+    put-peeled-requires
     same-length-2
     returns-3)

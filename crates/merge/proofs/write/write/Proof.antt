@@ -1,24 +1,27 @@
 -- `merge::write::write` meets its contract: what is left of the new file, put where the writing has come to, makes what is wanted.
-use mathlib.Core.Path.{_≡_, refl, sym, ap, _∙_}
+use mathlib.Core.Path.{_≡_, sym, ap, _∙_}
 use mathlib.Core.List.{List}
-use Prim.Native.Nat.{ℕ, _+_, _*_, _-_, _≤_, _<_}
+use Prim.Native.Nat.{ℕ, _*_, _-_, _≤_, _<_}
 use native.Mathlib.Omega.{arith}
-use lib.ListN.{length, getD, length-append}
+use lib.ListN.{length, getD}
 use Rattle.parse.proofs.Slices.{rest-is}
-use Rattle.put.specs.Put.{over}
-use Rattle.text.specs.Text.{withoutCR}
-use Rattle.merge.specs.Merge.{headerLine}
+use Rattle.put.specs.Put.{over, placeBehind}
+use Rattle.put.specs.Cr.{withoutCR}
+use Rattle.put.proofs.Laws.{puts-then}
 use Rattle.merge.specs.Splice.{splicedFile}
-use Rattle.merge.proofs.Splice.{over-then, length-new, oldBytes, length-old, splicedFrom, spliced-end, put-turn}
+use Rattle.merge.proofs.Splice.{puts-as, oldBytes, splicedFrom, spliced-end, put-turn}
 use borrow.Author.Needs.{needs}
 use Rattle.merge.proofs.write.write.Statement.{statement}
 use Rattle.merge.proofs.write.write.Tie as tie
 
 abbrev Inv-loop : tie.InvT-loop
-Inv-loop n file body list index marks out₀ at₀ from₀ j₀ out at from j = (j ≤ length index) × (at ≤ 46 + 4000000000 * j) × (length out ≡ length out₀) × (at + length (splicedFrom n file list index marks from j) ≡ 46 + length (splicedFrom n file list index marks body 0)) × (over out at (splicedFrom n file list index marks from j) ≡ over out₀ 46 (splicedFrom n file list index marks body 0))
+Inv-loop header n file body list index marks out₀ at₀ from₀ j₀ out at from j =
+    (length out ≡ length out₀)
+    × (over out at (splicedFrom n file list index marks from j) ≡ over out₀ at₀ (splicedFrom n file list index marks body 0))
+    × (placeBehind at (length (splicedFrom n file list index marks from j)) ≡ placeBehind at₀ (length (splicedFrom n file list index marks body 0)))
 
 abbrev μ-loop : tie.MeasureT-loop
-μ-loop n file body list index marks out₀ at₀ from₀ j₀ out at from j = length index - j
+μ-loop header n file body list index marks out₀ at₀ from₀ j₀ out at from j = length index - j
 
 -- ---- what is known at each place of a turn
 
@@ -48,35 +51,26 @@ module _ (l : tie.At-loop Inv-loop μ-loop) where
   abbrev whole : List ℕ
   whole = splicedFrom n file list index marks (start .args .body) 0
 
+  room : length (l .loop .out) ≤ 18446744073709551615
+  room = omega (arith, l .loop .inv .0, l .before .before .before .bytes .kept .0, start .good)
+
 -- the old bytes before the edit's run are put
 module _ (f : tie.After-lf Inv-loop μ-loop) where
   abbrev turn : tie.At-loop Inv-loop μ-loop
   turn = f .before .before .before .before .before
 
-  abbrev mark : ℕ
-  mark = getD (marks turn) (2 * turn .loop .j) 0
-
   inside : turn .loop .j < length (index turn)
   inside = f .before .before .before .before .loop-test .taken
 
-  old-is : withoutCR (f .before .between .result .now) ≡ oldBytes (file turn) (turn .loop .from) mark
-  old-is = ap withoutCR (f .before .between .ensures)
-
-  old-length : f .lf .result ≡ length (oldBytes (file turn) (turn .loop .from) mark)
-  old-length = f .lf .ensures .1 ∙ ap length old-is
-
-  old-short : turn .loop .at + f .lf .result ≤ 1073741870 + 4000000000 * turn .loop .j
-  old-short = omega (arith, start turn .pre, turn .loop .inv .1, old-length, length-old (file turn) (turn .loop .from) mark)
+  old-is : withoutCR (f .before .between .result .now) ≡ oldBytes (file turn) (turn .loop .from) (getD (marks turn) (2 * turn .loop .j) 0)
+  old-is =
+      ap withoutCR (f .before .between .ensures)
+      ∙ ap (oldBytes (file turn) (turn .loop .from)) (f .before .before .mark-at .ensures)
 
 -- and the edit's lines
 module _ (p : tie.After-put-new Inv-loop μ-loop) where
   abbrev behind : tie.After-lf Inv-loop μ-loop
   behind = p .before .before .before .before .before
-
-  new-short : p .put-new .result ≤ 1073742000
-  new-short =
-      let l = turn behind in
-      omega (arith, start l .pre, p .put-new .ensures .0, length-new (n l) (list l) (getD (index l) (l .loop .j) 0))
 
 -- no edit is left, and the old bytes up to the end are put
 module _ (f : tie.After-lf2 Inv-loop μ-loop) where
@@ -88,36 +82,23 @@ module _ (f : tie.After-lf2 Inv-loop μ-loop) where
       ap withoutCR (f .before .between2 .ensures ∙ rest-is (file end) (end .loop .from))
       ∙ sym (spliced-end (n end) (file end) (list end) (index end) (marks end) (end .loop .from) (end .loop .j) (f .before .before .before .loop-test .left))
 
-  last-short : f .lf2 .result ≤ 1073741824
-  last-short =
-      omega (arith, start end .pre, f .lf2 .ensures .1, ap (λ s. length (withoutCR s)) (f .before .between2 .ensures), length-old (file end) (end .loop .from) (length (file end)))
-
-slice-aggregate-bytes : tie.Need-slice-aggregate-bytes Inv-loop μ-loop
-slice-aggregate-bytes c = search needs
-
 bytes-requires : tie.Need-bytes-requires Inv-loop μ-loop
 bytes-requires c κs = search needs
 
 loop-holds : tie.Need-loop-holds Inv-loop μ-loop
 loop-holds c = search needs
 
-mul-between : tie.Need-mul-between Inv-loop μ-loop
-mul-between c = search needs
+mul-mark-at : tie.Need-mul-mark-at Inv-loop μ-loop
+mul-mark-at c = search needs
 
-mul-between-2 : tie.Need-mul-between-2 Inv-loop μ-loop
-mul-between-2 c = search needs
-
-shared-slice-read-between : tie.Need-shared-slice-read-between Inv-loop μ-loop
-shared-slice-read-between c = search needs
+mark-at-requires : tie.Need-mark-at-requires Inv-loop μ-loop
+mark-at-requires c κs = search needs
 
 between-requires : tie.Need-between-requires Inv-loop μ-loop
 between-requires c κs = search needs
 
 lf-requires : tie.Need-lf-requires Inv-loop μ-loop
 lf-requires c κs = search needs
-
-add-at : tie.Need-add-at Inv-loop μ-loop
-add-at c = omega (arith, old-short (c .before .before))
 
 mul-put-new : tie.Need-mul-put-new Inv-loop μ-loop
 mul-put-new c = search needs
@@ -126,31 +107,19 @@ shared-slice-read-put-new : tie.Need-shared-slice-read-put-new Inv-loop μ-loop
 shared-slice-read-put-new c = search needs
 
 put-new-requires : tie.Need-put-new-requires Inv-loop μ-loop
-put-new-requires c κs =
-    let f = c .before .before .before .before in
-    let pre = start (turn f) .pre in
-    (pre .0, pre .2, omega (arith, pre, inside f, old-short f))
+put-new-requires c κs = search needs
 
-add-at-2 : tie.Need-add-at-2 Inv-loop μ-loop
-add-at-2 c =
-    let p = c .before .before in
-    let f = behind p in
-    omega (arith, start (turn f) .pre, inside f, old-short f, new-short p)
+mul-mark-at-2 : tie.Need-mul-mark-at-2 Inv-loop μ-loop
+mul-mark-at-2 c = search needs
 
-mul-from : tie.Need-mul-from Inv-loop μ-loop
-mul-from c = search needs
+add-mark-at : tie.Need-add-mark-at Inv-loop μ-loop
+add-mark-at c = search needs
 
-add-from : tie.Need-add-from Inv-loop μ-loop
-add-from c = search needs
-
-mul-from-2 : tie.Need-mul-from-2 Inv-loop μ-loop
-mul-from-2 c = search needs
-
-shared-slice-read-from : tie.Need-shared-slice-read-from Inv-loop μ-loop
-shared-slice-read-from c = search needs
+mark-at-requires-2 : tie.Need-mark-at-requires-2 Inv-loop μ-loop
+mark-at-requires-2 c κs = search needs
 
 add-j : tie.Need-add-j Inv-loop μ-loop
-add-j c = search needs
+add-j c = let f = behind (c .before .before .before) in omega (arith, inside f, start (turn f) .good)
 
 loop-less : tie.Need-loop-less Inv-loop μ-loop
 loop-less c = search needs
@@ -161,19 +130,18 @@ loop-again c =
     let f = behind p in
     let l = turn f in
     let before = l .loop .inv in
-    let t = put-turn (n l) (file l) (list l) (index l) (marks l) (l .loop .from) (l .loop .j) (inside f) (l .loop .out) _ _ (l .loop .at) (f .lf .result) (p .put-new .result) (old-length f) (p .put-new .ensures .0) (f .lf .ensures .0 ∙ ap (over (l .loop .out) (l .loop .at)) (old-is f)) (p .put-new .ensures .1) in
-    (omega (arith, inside f), omega (arith, old-short f, new-short p), p .put-new .kept .1 .1 .1 .0 ∙ f .lf .kept .0 ∙ before .2, t .0 ∙ before .3, t .1 ∙ before .4)
+    let t =
+    put-turn (n l) (file l) (list l) (index l) (marks l) (l .loop .from) (l .loop .j) (inside f) (l .loop .out) _ _ (l .loop .at) _ _
+    (room l) (puts-as (l .loop .out) (l .loop .at) (old-is f) (f .lf .ensures)) (p .put-new .ensures .1, p .put-new .ensures .0)
+    in
+    rw (c .mark-at2 .ensures)
+    (p .put-new .kept .1 .1 .1 .0 ∙ f .lf .kept .0 ∙ before .0, t .0 ∙ before .1, t .1 ∙ before .2)
 
 between-requires-2 : tie.Need-between-requires-2 Inv-loop μ-loop
 between-requires-2 c κs = search needs
 
 lf-requires-2 : tie.Need-lf-requires-2 Inv-loop μ-loop
 lf-requires-2 c κs = search needs
-
-add-result : tie.Need-add-result Inv-loop μ-loop
-add-result c =
-    let f = c .before .before in
-    omega (arith, start (end f) .pre, end f .loop .inv .0, end f .loop .inv .1, last-short f)
 
 same-length : tie.Need-same-length Inv-loop μ-loop
 same-length c = search needs
@@ -183,10 +151,12 @@ unfolding splicedFile
 returns c =
     let f = c .before .before in
     let l = end f in
-    let header = l .before .before .before .bytes .ensures in (
-      ap (λ k. l .loop .at + k) (f .lf2 .ensures .1 ∙ ap length (last-is f)) ∙ l .loop .inv .3 ∙ sym (length-append headerLine (whole l)),
-      over-then (start l .args .out .now) _ _ 0 46 headerLine (whole l) header (f .lf2 .ensures .0 ∙ ap (over (l .loop .out) (l .loop .at)) (last-is f) ∙ l .loop .inv .4) refl,
-    )
+    let last = puts-as (l .loop .out) (l .loop .at) (last-is f) (f .lf2 .ensures) in
+    let all =
+    puts-then (start l .args .out .now) _ _ 0 _ _ (start l .args .header .now) (whole l) (omega (arith, start l .good)) (l .before .before .before .bytes .ensures)
+    (last .0 ∙ l .loop .inv .1, last .1 ∙ l .loop .inv .2)
+    in
+    (all .1, all .0)
 
 pub write-spec : {M : Type 1} → statement M
 write-spec =
@@ -194,28 +164,22 @@ write-spec =
     (tie.spec
     Inv-loop
     μ-loop
-    slice-aggregate-bytes
     bytes-requires
     loop-holds
-    mul-between
-    mul-between-2
-    shared-slice-read-between
+    mul-mark-at
+    mark-at-requires
     between-requires
     lf-requires
-    add-at
     mul-put-new
     shared-slice-read-put-new
     put-new-requires
-    add-at-2
-    mul-from
-    add-from
-    mul-from-2
-    shared-slice-read-from
+    mul-mark-at-2
+    add-mark-at
+    mark-at-requires-2
     add-j
     loop-less
     loop-again
     between-requires-2
     lf-requires-2
-    add-result
     same-length
     returns)

@@ -1,8 +1,0 @@
--- Document 01's worked examples of name lengths: the prover computes every case.
-use mathlib.Core.Path.{_≡_, refl}
-use Rattle.change.specs.Change.{lengthAt}
-use Rattle.change.specs.Examples.{allComputed, cases}
-
-pub every-case : allComputed cases ≡ cases
-unfolding lengthAt
-every-case = refl

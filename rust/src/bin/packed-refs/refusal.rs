@@ -1,0 +1,105 @@
+//! No answer, and why: in words, and in the parts that --json tells.
+use crate::input::Input;
+use crate::json::Object;
+use crate::rule;
+use crate::words::Quoted;
+use packed_refs::{Error, Reason};
+use std::ffi::OsString;
+use std::io;
+use std::os::unix::ffi::OsStrExt;
+
+/// Why there is no answer.
+#[derive(Default)]
+pub struct Refusal {
+    /// For a person: what is the matter, and what to do.
+    pub words: String,
+    /// The library's number, where it was the library that refused.
+    pub number: Option<u32>,
+    /// The file, as it was named.
+    pub file: Option<OsString>,
+    /// The name that was asked for.
+    pub name: Option<Vec<u8>>,
+    pub line: Option<usize>,
+    pub byte: Option<usize>,
+}
+
+impl Refusal {
+    /// Of the program itself.
+    pub fn new(words: impl Into<String>) -> Refusal {
+        Refusal { words: words.into(), ..Refusal::default() }
+    }
+
+    /// Of the library, about a table: which file, which line, which number, what to do. `about` stands before the number.
+    pub fn of(input: &Input, about: &str, error: &Error) -> Refusal {
+        Refusal::at(input, error.place_in_file().map(|place| input.line(place)), about, error)
+    }
+
+    /// The same where the line is known.
+    fn at(input: &Input, line: Option<usize>, about: &str, error: &Error) -> Refusal {
+        let place = line.map_or(String::new(), |line| format!(", line {line}"));
+        let words = format!("{}{place}: {about}{error}", input.name);
+        let (number, file) = (Some(error.number()), Some(input.given.clone()));
+        Refusal { words, number, file, line, byte: error.place_in_file(), name: None }
+    }
+
+    /// Of the library, about a name that is asked for: what is wrong with the name, or with the table, whose first fault is on that line.
+    pub fn of_name(input: &Input, line: Option<usize>, name: &[u8], error: &Error) -> Refusal {
+        let about = format!("no answer for {}: ", Quoted(name));
+        let refusal = match error.place_in_file() {
+            Some(_) => Refusal::at(input, line, &about, error),
+            None => {
+                let broken = if error.reason() == Reason::BadName { format!(": {}", rule::broken(name)) } else { String::new() };
+                let words = format!("{about}number {}: {}{broken}. {}", error.number(), error.meaning(), error.what_to_do());
+                Refusal { number: Some(error.number()), ..Refusal::new(words) }
+            }
+        };
+        Refusal { name: Some(name.to_vec()), ..refusal }
+    }
+
+    /// The line of JSON.
+    pub fn object(&self) -> Object {
+        Object::new("none")
+            .number("status", 2u32)
+            .optional(self.number, |object, number| object.number("number", number))
+            .optional(self.file.as_deref(), |object, file| object.bytes("file", file.as_bytes()))
+            .optional(self.name.as_deref(), |object, name| object.bytes("name", name))
+            .optional(self.line, |object, line| object.count("line", line))
+            .optional(self.byte, |object, byte| object.count("byte", byte))
+            .text("message", &self.words)
+    }
+}
+
+/// Why a command ends early.
+pub enum Trouble {
+    /// Wrong usage, in words.
+    Usage(String),
+    Refused(Refusal),
+    /// Whoever read our output has gone.
+    Gone,
+}
+
+impl Trouble {
+    pub fn refused(words: impl Into<String>) -> Trouble {
+        Trouble::Refused(Refusal::new(words))
+    }
+
+    pub fn usage<T>(words: impl Into<String>) -> Result<T, Trouble> {
+        Err(Trouble::Usage(words.into()))
+    }
+}
+
+impl From<Refusal> for Trouble {
+    fn from(refusal: Refusal) -> Trouble {
+        Trouble::Refused(refusal)
+    }
+}
+
+impl From<io::Error> for Trouble {
+    /// Only writing to standard output is left to `?`; what else can fail says what it was.
+    fn from(error: io::Error) -> Trouble {
+        match error.kind() {
+            io::ErrorKind::BrokenPipe => Trouble::Gone,
+            _ => Trouble::refused(format!("standard output can't be written: {error}")),
+        }
+    }
+}

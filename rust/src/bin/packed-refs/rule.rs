@@ -1,0 +1,64 @@
+//! Which name rule a name breaks, in words.
+
+/// The first rule of Git's page git-check-ref-format, with at least one slash, that a name breaks. The library has refused the name; this says why, and
+/// decides nothing.
+pub fn broken(name: &[u8]) -> &'static str {
+    let has = |part: &[u8]| name.windows(part.len()).any(|window| window == part);
+    let components = || name.split(|b| *b == b'/');
+    if name.is_empty() {
+        "it is empty"
+    } else if name.contains(&b' ') {
+        "it holds a space"
+    } else if name.iter().any(|b| *b < 32 || *b == 127) {
+        "it holds a control byte"
+    } else if name.iter().any(|b| b"~^:?*[\\".contains(b)) {
+        "it holds one of ~ ^ : ? * [ \\"
+    } else if name.starts_with(b"/") {
+        "it begins with a slash"
+    } else if name.ends_with(b"/") {
+        "it ends with a slash"
+    } else if has(b"//") {
+        "it holds two slashes in a row"
+    } else if components().any(|component| component.starts_with(b".")) {
+        "a part of it begins with a dot"
+    } else if has(b"..") {
+        "it holds two dots in a row"
+    } else if name.ends_with(b".") {
+        "it ends with a dot"
+    } else if name.ends_with(b".lock") {
+        "it ends with .lock"
+    } else if has(b"@{") {
+        "it holds @{"
+    } else if !name.contains(&b'/') {
+        "it has no slash"
+    } else if components().any(|component| component.ends_with(b".lock")) {
+        "a part of it ends with .lock"
+    } else {
+        "it breaks the name rules"
+    }
+}
+
+#[cfg(test)]
+mod tests {
+    use super::broken;
+    use packed_refs::check_name;
+
+    /// Every name of up to six bytes out of those that a rule speaks of: a name that the library refuses has its reason, and another has none.
+    #[test]
+    fn every_refused_name_has_its_rule() {
+        let letters = b"a/.@{ ~\x1f";
+        let mut names = vec![Vec::new()];
+        for _ in 0..6 {
+            let longer = names.iter().flat_map(|name: &Vec<u8>| letters.iter().map(move |b| [&name[..], &[*b]].concat()));
+            let longer: Vec<Vec<u8>> = longer.collect();
+            for name in &longer {
+                let has_none = broken(name) == "it breaks the name rules";
+                assert_eq!(check_name(name).is_ok(), has_none, "{name:?}: {}", broken(name));
+            }
+            names = longer;
+        }
+        assert_eq!(broken(b""), "it is empty");
+        assert_eq!(broken(b"refs/a.lock"), "it ends with .lock");
+        assert_eq!(broken(b"refs/a:b"), "it holds one of ~ ^ : ? * [ \\");
+    }
+}
