@@ -16,9 +16,9 @@ use Rattle.decode.specs.Record.{recordOf}
 use Rattle.decode.proofs.Records.{good-alike, headLen, peelLen, Peel, plain-is, peeled-is}
 use Rattle.iter.specs.Items.{Item, nameOf}
 use Rattle.lines.specs.Lines.{Entry, recordLine, peeledLine, peeledLines, linesOf}
 use Rattle.merge.specs.Entry.{peeledAt, entryOf}
 use Rattle.merge.proofs.Entries.{Digits, DigitsIf, Sound}
-use Rattle.merge.proofs.WrittenLines.{behind, lineThen, name-len, line-head, head-len, behind-head, byte-behind, line-peel, peel-len}
+use Rattle.one_merge.proofs.WrittenLines.{behind, lineThen, name-len, line-head, head-len, behind-head, byte-behind, line-peel, peel-len}
 
 -- where the peeled id stands behind a first line of some length: behind the `^`
 abbrev pub peeledPlace : ℕ → Option (List ℕ) → ℕ

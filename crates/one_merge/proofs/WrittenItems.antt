@@ -12,9 +12,9 @@ use Rattle.decode.specs.Record.{recordOf}
 use Rattle.iter.specs.Items.{Item, sizeOf, items}
 use Rattle.iter.proofs.Items.{size-good, items-nil, items-step}
 use Rattle.lines.specs.Lines.{Entry, peeledLines, linesOf, linesOfAll}
 use Rattle.merge.specs.Entry.{entriesOf}
 use Rattle.merge.proofs.Entries.{Digits, Sound, AllSound}
-use Rattle.merge.proofs.ReadBack.{lines-then, readingOf, written, read-one, entry-back}
+use Rattle.one_merge.proofs.ReadBack.{lines-then, readingOf, written, read-one, entry-back}
 
 -- ---- no entry begins with `^`, so that none is taken for the second line of the one before
 

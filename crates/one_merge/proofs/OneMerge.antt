@@ -15,18 +15,18 @@ use Rattle.checks.proofs.CheckMeans.{check-means}
 use Rattle.edit.specs.declared.list.Prepared.{Prepared}
 use Rattle.edit.specs.declared.list.Prepared.the-variants as prepared
 use Rattle.edit.specs.List.{editsOf, placesOf, preparedOf}
 use Rattle.merge.specs.declared.Merged.the-variants.{Done}
 use Rattle.lines.specs.Lines.{Entry, linesOfAll}
 use Rattle.merge.specs.Entry.{Edit, entriesOf}
 use Rattle.merge.specs.Merge.{overridden, newFile, oldEntries, editsInOrder, judgedBy, judged, listed, mergeOf}
-use Rattle.merge.specs.Theorems.{NewFileMeans, OneMerge}
+use Rattle.one_merge.specs.OneMerge.{NewFileMeans, OneMerge}
 use Rattle.merge.proofs.EditsRise.{readied, in-order-rises}
 use Rattle.merge.proofs.Entries.{AllSound, Ascends, Rises}
 use Rattle.merge.proofs.OldSound.{olds-sound, olds-ascend}
-use Rattle.merge.proofs.Overriding.{mixed}
-use Rattle.merge.proofs.WrittenFile.{passes, lookup}
-use Rattle.merge.proofs.WrittenHeader.{written-header}
-use Rattle.merge.proofs.WrittenItems.{entries-back}
+use Rattle.one_merge.proofs.Overriding.{mixed}
+use Rattle.one_merge.proofs.WrittenFile.{passes, lookup}
+use Rattle.one_merge.proofs.WrittenHeader.{written-header}
+use Rattle.one_merge.proofs.WrittenItems.{entries-back}
 
 -- ---- the new file, where the old records and the edits are sound and rise
 

@@ -13,12 +13,12 @@ use Rattle.checks.specs.Passes.{allGood, ascending, Passes}
 use Rattle.checks.proofs.Passes.{judges}
 use Rattle.checks.proofs.CheckMeans.{read}
 use Rattle.lines.specs.Lines.{Entry, linesOfAll, headerLine}
-use Rattle.merge.specs.Theorems.{entryNamed, Tells}
-use Rattle.merge.proofs.CheckedLookup.{body-tells}
+use Rattle.one_merge.specs.OneMerge.{entryNamed, Tells}
+use Rattle.one_merge.proofs.CheckedLookup.{body-tells}
 use Rattle.merge.proofs.Entries.{AllSound, Ascends}
-use Rattle.merge.proofs.ReadBack.{name-back}
-use Rattle.merge.proofs.WrittenHeader.{written-header}
-use Rattle.merge.proofs.WrittenItems.{writtenAll, items-back, entries-back}
+use Rattle.one_merge.proofs.ReadBack.{name-back}
+use Rattle.one_merge.proofs.WrittenHeader.{written-header}
+use Rattle.one_merge.proofs.WrittenItems.{writtenAll, items-back, entries-back}
 
 all-good : (es : List Entry) → allGood (writtenAll es) ≡ true
 all-good [] = refl

@@ -25,9 +25,9 @@ use Rattle.find.proofs.Found.{good-record, found-exactly}
 use Rattle.find.proofs.ItemAt.{stands-good}
 use Rattle.places.specs.Order.{same}
 use Rattle.lines.specs.Lines.{Entry}
 use Rattle.merge.specs.Entry.{entryOf, entriesOf}
-use Rattle.merge.specs.Theorems.{entryNamed, Shows, Tells}
-use Rattle.merge.proofs.Overriding.{same-is}
+use Rattle.one_merge.specs.OneMerge.{entryNamed, Shows, Tells}
+use Rattle.merge.proofs.InOrder.{same-is}
 
 -- ---- the entry of a name among some items
 

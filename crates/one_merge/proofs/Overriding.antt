@@ -8,33 +8,17 @@ use Rattle.compare.specs.declared.order.Order.{Order}
 use Rattle.compare.specs.declared.order.Order.the-variants.{Less, Equal, Greater}
 use Rattle.parse.specs.Choice.{if}
 use Rattle.compare.specs.Order.{orderOf}
-use Rattle.compare.proofs.Orders.{order-equal, less-flip, greater-flip, less-trans}
-use Rattle.places.specs.Order.{isEqual, same}
+use Rattle.compare.proofs.Orders.{order-equal, greater-flip, less-trans}
+use Rattle.places.specs.Order.{same}
 use Rattle.lines.specs.Lines.{Entry}
 use Rattle.merge.specs.Entry.{Edit}
 use Rattle.compare.specs.Order.{byOrder}
 use Rattle.merge.specs.Merge.{overridden}
-use Rattle.merge.specs.Theorems.{entryNamed, leftBy, afterEdits}
+use Rattle.one_merge.specs.OneMerge.{entryNamed, leftBy, afterEdits}
 use Rattle.merge.proofs.Entries.{Sound, AllSound, Ascends, AllOf, Rises}
-
--- ---- a name is the same as another, or it is not
-
-pub same-greater : (a b : List ℕ) → orderOf a b ≡ Less → same b a ≡ false
-same-greater a b h = ap isEqual (less-flip a b h)
-
-pub same-is : (a b : List ℕ) → same a b ≡ true → a ≡ b
-same-is a b h = go (orderOf a b) refl h
-  where
-    go : (o : Order) → orderOf a b ≡ o → isEqual o ≡ true → a ≡ b
-    go Less e k = cc
-    go Equal e k = order-equal a b e
-    go Greater e k = cc
+use Rattle.merge.proofs.InOrder.{same-greater, same-is, lower}
 
 -- ---- what begins behind a name holds no record and no edit of it
-
-pub lower : (low last : List ℕ) (l : List Entry) → orderOf low last ≡ Less → Ascends last l → Ascends low l
-lower low last [] h u = tt
-lower low last (e ∷ l) h u = (less-trans low last (e .name) h (u .0), u .1)
 
 none-named : (name : List ℕ) (l : List Entry) → Ascends name l → entryNamed name l ≡ none
 none-named name [] u = refl
