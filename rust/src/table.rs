@@ -247,9 +247,7 @@ impl<'a> Table<'a> {
             0 => Ok(Glance::Charted(Record::at(self.kind, records, said.place, said.name_at, said.name_len, said.peeled_at).behind(body))),
             5 => Ok(Glance::NotFound),
             number => {
-                // Beside number 4, and beside it alone, a place of 0 may say that no record was hit.
-                let place = (Reason::of(number) != Reason::BadRecord || said.place != 0).then_some(said.place + body);
-                let error = Error::told(number, Given { place, text: b"" });
+                let error = lookup_refusal(number, said.place, body);
                 match error.reason().row().beside {
                     Beside::Record => Ok(Glance::Unreadable(error)),
                     Beside::FirstLine | Beside::Edit | Beside::Nothing => Err(error),
@@ -390,4 +388,25 @@ impl std::iter::FusedIterator for Records<'_> {}
 /// The refusal of a call that was lent a whole file: its place, and its text, which stands at the front.
 pub(crate) fn refusal(number: u32, file: &[u8], place: usize, text_len: usize) -> Error {
     Error::told(number, Given { place: Some(place), text: &file[..text_len] })
+}
+
+/// The refusal of a lookup in the bytes behind a header that ends at `body`. Beside number 4, and beside it alone, a place of 0 may say that no record was
+/// hit: then none is told. Whatever other number gives a place, it is kept.
+fn lookup_refusal(number: u32, place: usize, body: usize) -> Error {
+    let is_told = Reason::of(number) != Reason::BadRecord || place != 0;
+    Error::told(number, Given { place: is_told.then_some(place + body), text: b"" })
+}
+
+#[cfg(test)]
+mod tests {
+    use super::*;
+
+    #[test]
+    fn a_hits_place_is_kept_whatever_its_number() {
+        let place = |number, place| lookup_refusal(number, place, 46).place();
+        assert_eq!((place(4, 50), place(4, 0)), (Some(96), None));
+        // no lookup gives 6 today; it stands for a number of a record that is new
+        assert_eq!((place(6, 50), place(6, 0)), (Some(96), Some(46)));
+        assert_eq!((place(3, 0), place(17, 0)), (None, None));
+    }
 }

@@ -285,3 +285,56 @@ fn merges_of_several_at_once_lose_nothing() {
         assert!(!dir.has("table.lock"));
     }
 }
+
+/// Git and this crate keep to one lock, and Git reads what was merged.
+#[test]
+fn git_keeps_to_the_same_lock() {
+    let dir = Dir::new();
+    let git = |args: &[&str]| {
+        let user = [
+            "-c",
+            "user.name=n",
+            "-c",
+            "user.email=e",
+            "-c",
+            "core.packedRefsTimeout=0",
+            "-c",
+            "init.defaultObjectFormat=sha1",
+            "-c",
+            "init.defaultRefFormat=files",
+        ];
+        Command::new("git")
+            .current_dir(dir.path(""))
+            .env_clear()
+            .envs(std::env::vars_os().filter(|(name, _)| name == "PATH"))
+            .args(user)
+            .args(args)
+            .output()
+    };
+    if git(&["init", "-q", "."]).is_err() {
+        eprintln!("the lock beside Git: not tried, since git is not there");
+        return;
+    }
+    let said = |args: &[&str]| {
+        let ran = git(args).unwrap();
+        (ran.status.success(), String::from_utf8_lossy(&ran.stdout).into_owned(), String::from_utf8_lossy(&ran.stderr).into_owned())
+    };
+    assert!(said(&["commit", "-q", "--allow-empty", "-m", "m"]).0);
+    assert!(said(&["tag", "-a", "-m", "t", "v1"]).0);
+    let packed = dir.path(".git/packed-refs");
+    let lock = Lock::take(&packed, LOCK_WAIT).unwrap();
+    let (is_done, _, words) = said(&["pack-refs", "--all"]);
+    assert!(!is_done && words.contains("packed-refs.lock"), "{words}");
+    drop(lock);
+    assert!(said(&["pack-refs", "--all"]).0);
+    let table = Opener::new().check(KIND, &packed).unwrap();
+    assert_eq!(table.table().len(), 2);
+
+    let id = said(&["rev-parse", "HEAD"]).1;
+    let mut edits = Edits::new(KIND);
+    edits.update("refs/sent/a", id.trim()).unwrap();
+    assert_eq!(merge_file(&packed, &edits, Opener::new(), Rights::Keep).unwrap(), Saved::New(Lost::default()));
+    assert_eq!(said(&["rev-parse", "--verify", "refs/sent/a"]).1, id);
+    assert_eq!(said(&["rev-parse", "v1^{commit}"]).1, id);
+    assert_eq!(said(&["for-each-ref"]).1.lines().count(), 3);
+}
