@@ -89,13 +89,13 @@ mod tests {
     use crate::edit_lines::EditLines;
     use crate::input::Input;
     use packed_refs::{IdKind, Table};
-    use std::ffi::OsString;
+    use std::ffi::OsStr;
 
     const NAMES: [&str; 9] = ["r/a", "r/a-", "r/a-/b", "r/a/b", "r/a/b-", "r/a/b/c", "r/a0", "r/c", "r/c/d"];
     const ID: &str = "1111111111111111111111111111111111111111";
 
     fn input(lines: impl Iterator<Item = String>) -> Input {
-        Input { given: OsString::from("-"), name: "standard input".to_string(), bytes: lines.collect::<String>().into_bytes() }
+        Input::new(OsStr::new("-"), lines.collect::<String>().into_bytes())
     }
 
     fn is_directory(one: &str, other: &str) -> bool {
