@@ -12,8 +12,6 @@ mod input;
 mod items;
 mod json;
 mod kind;
-#[allow(unsafe_code)]
-mod memory;
 mod names;
 mod nested;
 mod output;
