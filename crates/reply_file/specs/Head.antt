@@ -6,12 +6,19 @@ use Rattle.parse.specs.Choice.{if}
 use Rattle.class.specs.Class.{paper}
 use Rattle.parse.specs.Limit.{overLimit}
 use Rattle.name.specs.Name.{validName}
+use Rattle.header.specs.declared.Peeled.{Peeled}
+use Rattle.header.specs.declared.Peeled.the-variants.{Unspecified, Partial, Fully}
 use Rattle.header.specs.declared.HeaderAnswer.{HeaderAnswer}
 use Rattle.header.specs.declared.HeaderAnswer.the-variants.{Done, TooLarge}
 use Rattle.header.specs.declared.Opened.the-variants.{Header, Unreadable}
 use Rattle.header.specs.Header.{headerNumber}
-use Rattle.reply.specs.declared.head.HeaderReply.{HeaderReply}
-use Rattle.reply.specs.Told.{peeledNumber}
+use Rattle.reply_file.specs.declared.head.HeaderReply.{HeaderReply}
+
+-- "one of three peeled states (unspecified, partial, fully)"
+abbrev pub peeledNumber : Peeled → ℕ
+peeledNumber Unspecified = 0
+peeledNumber Partial = 1
+peeledNumber Fully = 2
 
 -- no header: a number, and the length of a text
 abbrev pub headerBare : ℕ → ℕ → HeaderReply

@@ -1,4 +1,4 @@
--- What the start, the step and the check give back.
+-- What the start and the step give back.
 use mathlib.Core.Path.{_≡_}
 use Prim.Native.Nat.{ℕ}
 use Rattle.decode.specs.declared.reference.Record.{Record}
@@ -8,17 +8,11 @@ use Rattle.start.specs.declared.StartAnswer.the-variants.{Done, UnknownKind, To
 use Rattle.iter.specs.declared.step.Step.the-variants.{End, Good, Error}
 use Rattle.iter.specs.declared.step.StepAnswer.{StepAnswer}
 use Rattle.iter.specs.declared.step.StepAnswer.the-variants as step
-use Rattle.checks.specs.declared.Verdict.the-variants as verdict
-use Rattle.checks.specs.declared.CheckAnswer.{CheckAnswer}
-use Rattle.checks.specs.declared.CheckAnswer.the-variants as check
 use Rattle.start.specs.Start.{startNumber}
 use Rattle.iter.specs.Step.{stepNumber}
-use Rattle.checks.specs.Check.{checkNumber}
-use Rattle.reply.specs.declared.walk.StartReply.{StartReply}
-use Rattle.reply.specs.declared.walk.StepReply.{StepReply}
-use Rattle.reply.specs.declared.walk.CheckReply.{CheckReply}
-use Rattle.reply.specs.declared.told.Numbered.{Numbered}
-use Rattle.reply.specs.Told.{Near, nameAt, peeledAt, refusalBeside}
+use Rattle.reply_file.specs.declared.walk.StartReply.{StartReply}
+use Rattle.reply_file.specs.declared.walk.StepReply.{StepReply}
+use Rattle.tell.specs.Told.{Near, nameAt, peeledAt}
 
 -- ---- the start
 
@@ -90,20 +84,3 @@ stepReply kind place a = stepBeside (stepNumber a) kind place a
 -- what is asked of an answer that is to be told from a place
 abbrev pub StepNear : ℕ → StepAnswer → Type 0
 StepNear place a = (r : Record) (next item : ℕ) → a ≡ step.Done (Good r next item) → Near place r
-
--- ---- the check
-
-abbrev pub checkGives : ℕ → ℕ → ℕ → ℕ → CheckReply
-checkGives number place count textLen = record { number = number; place = place; count = count; «text_len» = textLen }
-
-abbrev pub checkRefused : Numbered → CheckReply
-checkRefused r = checkGives (r .number) (r .place) 0 (r .«text_len»)
-
-abbrev pub checkBeside : ℕ → CheckAnswer → CheckReply
-checkBeside number (check.Done (verdict.Clean count)) = checkGives number 0 count 0
-checkBeside number (check.Done (verdict.Refused why)) = checkRefused (refusalBeside number why)
-checkBeside number check.UnknownKind = checkGives number 0 0 0
-checkBeside number check.TooLarge = checkGives number 0 0 0
-
-abbrev pub checkReply : CheckAnswer → CheckReply
-checkReply a = checkBeside (checkNumber a) a

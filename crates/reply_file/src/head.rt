@@ -1,9 +1,11 @@
 // The header of a file, and the rules of a name.
 ghost use mathlib.Core.Path.{_≡_};
+ghost use Rattle.parse.specs.Choice.{if};
 ghost use Rattle.header.specs.Header.{headerAnswer};
-ghost use Rattle.reply.specs.Head.{headerReply, headerBare, nameNumber};
+ghost use Rattle.reply_file.specs.Head.{headerReply, headerBare, peeledNumber, nameNumber};
 use header::HeaderAnswer;
 use header::Opened;
+use header::Peeled;
 
 #[repr(C)]
 pub struct HeaderReply {
@@ -32,8 +34,8 @@ fn header_told(answer: HeaderAnswer) -> HeaderReply
                 let peeled = h.peeled;
                 HeaderReply {
                     number: 0,
-                    peeled: crate::told::peeled_number(peeled),
-                    sorted: crate::told::flag(h.sorted),
+                    peeled: peeled_number(peeled),
+                    sorted: flag(h.sorted),
                     place: h.body,
                     text_len: 0,
                 }
@@ -54,6 +56,26 @@ fn bare(number: u32, text: usize) -> HeaderReply
         place: 0,
         text_len: text,
     }
+}
+
+// 0 unspecified, 1 partial, 2 fully.
+fn peeled_number(peeled: Peeled) -> u32
+    ensures { λ r. ⌜ r ≡ peeledNumber peeled ⌝ }
+{
+    match peeled {
+        Peeled::Unspecified => 0,
+        Peeled::Partial => 1,
+        Peeled::Fully => 2,
+    }
+}
+
+fn flag(b: bool) -> u32
+    ensures { λ r. ⌜ r ≡ if b 1 0 ⌝ }
+{
+    if b {
+        return 1;
+    }
+    0
 }
 
 // The number alone: 0 for a valid name, 3 for another, 17.

@@ -1,12 +1,9 @@
-// Iteration, and the check of a whole file.
+// Iteration: where it starts, and its steps.
 ghost use mathlib.Core.Path.{_≡_};
 ghost use mathlib.Core.List.{[]};
 ghost use Rattle.start.specs.Start.{startAnswer};
 ghost use Rattle.iter.specs.Step.{stepAnswer};
-ghost use Rattle.checks.specs.Check.{checkAnswer};
-ghost use Rattle.reply.specs.Walk.{startReply, startGives, stepReply, StepNear, stepBare, checkReply, checkGives};
-use checks::CheckAnswer;
-use checks::Verdict;
+ghost use Rattle.reply_file.specs.Walk.{startReply, startGives, stepReply, StepNear, stepBare};
 use iter::step::Step;
 use iter::step::StepAnswer;
 use start::Start;
@@ -101,18 +98,21 @@ fn step_told(kind: u32, place: usize, answer: StepAnswer) -> StepReply
     match answer {
         StepAnswer::Done(said) => match said {
             Step::End { next, item } => step_bare(0, next, item),
-            Step::Good { found, next, item } => StepReply {
-                number: 0,
-                what: 1,
-                start: place,
-                next,
-                item,
-                name_at: crate::told::name_at(kind, place),
-                name_len: found.name,
-                peeled_at: crate::told::peeled_at(place, found.object),
-                error: 0,
-                text_len: 0,
-            },
+            Step::Good { found, next, item } => {
+                let parts = tell::parts_at(kind, place, found);
+                StepReply {
+                    number: 0,
+                    what: 1,
+                    start: place,
+                    next,
+                    item,
+                    name_at: parts.name_at,
+                    name_len: parts.name_len,
+                    peeled_at: parts.peeled_at,
+                    error: 0,
+                    text_len: 0,
+                }
+            }
             Step::Error {
                 fault: _,
                 number,
@@ -152,49 +152,5 @@ fn step_bare(number: u32, next: usize, item: u64) -> StepReply
         peeled_at: 0,
         error: 0,
         text_len: 0,
-    }
-}
-
-#[repr(C)]
-pub struct CheckReply {
-    pub number: u32,
-    // Where the item of number 4 or 6 starts.
-    pub place: usize,
-    // How many records.
-    pub count: usize,
-    // The length of number 2's text, which starts at 0.
-    pub text_len: usize,
-}
-
-pub fn check_reply(kind: u32, file: &[u8]) -> CheckReply
-    ensures { λ r. ⌜ r ≡ checkReply (checkAnswer kind (now (file .entry))) ⌝ }
-{
-    check_told(checks::check(kind, file))
-}
-
-fn check_told(answer: CheckAnswer) -> CheckReply
-    ensures { λ r. ⌜ r ≡ checkReply answer ⌝ }
-{
-    match answer {
-        CheckAnswer::Done(verdict) => match verdict {
-            Verdict::Clean(count) => check_gives(0, 0, count, 0),
-            Verdict::Refused(why) => {
-                let told = crate::told::refusal(why);
-                check_gives(told.number, told.place, 0, told.text_len)
-            }
-        },
-        CheckAnswer::UnknownKind => check_gives(1, 0, 0, 0),
-        CheckAnswer::TooLarge => check_gives(17, 0, 0, 0),
-    }
-}
-
-fn check_gives(number: u32, place: usize, count: usize, text: usize) -> CheckReply
-    ensures { λ r. ⌜ r ≡ checkGives number place count text ⌝ }
-{
-    CheckReply {
-        number,
-        place,
-        count,
-        text_len: text,
     }
 }

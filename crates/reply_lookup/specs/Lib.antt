@@ -1,5 +1,3 @@
-pub mod Content
-pub mod Head
-pub mod Seek
-pub mod Told
-pub mod Walk
+pub mod Asked
+pub mod Lookup
+pub mod Prefix

@@ -1,26 +1,13 @@
--- What the lookups and the prefix listing give back.
+-- What the lookup gives back.
 use mathlib.Core.Path.{_≡_}
 use Prim.Native.Nat.{ℕ}
 use Rattle.decode.specs.declared.reference.Record.{Record}
 use Rattle.find.specs.declared.lookup.Lookup.the-variants.{Charted, BadRecord, Unsure, Absent, BadName}
 use Rattle.find.specs.declared.lookup.LookupAnswer.{LookupAnswer}
 use Rattle.find.specs.declared.lookup.LookupAnswer.the-variants.{Done, UnknownKind, TooLarge}
-use Rattle.find.specs.declared.listing.Listing.the-variants.{From, BadHeader}
-use Rattle.find.specs.declared.listing.ListingAnswer.{ListingAnswer}
-use Rattle.find.specs.declared.listing.ListingAnswer.the-variants as listing
-use Rattle.ask.specs.declared.Told.the-variants as told
-use Rattle.ask.specs.declared.AskAnswer.{AskAnswer}
-use Rattle.ask.specs.declared.AskAnswer.the-variants as ask
 use Rattle.find.specs.Lookup.{lookupNumber}
-use Rattle.find.specs.Listing.{listingNumber}
-use Rattle.ask.specs.Ask.{askNumber}
-use Rattle.reply.specs.declared.seek.LookupReply.{LookupReply}
-use Rattle.reply.specs.declared.seek.PrefixReply.{PrefixReply}
-use Rattle.reply.specs.declared.seek.AskReply.{AskReply}
-use Rattle.reply.specs.declared.told.Numbered.{Numbered}
-use Rattle.reply.specs.Told.{Near, nameAt, peeledAt, refusalBeside}
-
--- ---- lookup
+use Rattle.tell.specs.Told.{Near, nameAt, peeledAt}
+use Rattle.reply_lookup.specs.declared.lookup.LookupReply.{LookupReply}
 
 -- no record: "lookup on a hit the record's start for 4"
 abbrev pub lookupBare : ℕ → ℕ → LookupReply
@@ -49,50 +36,3 @@ lookupReply kind a = lookupBeside (lookupNumber a) kind a
 -- what is asked of an answer that is to be told
 abbrev pub LookupNear : LookupAnswer → Type 0
 LookupNear a = (place : ℕ) (r : Record) → a ≡ Done (Charted place r) → Near place r
-
--- ---- prefix
-
-abbrev pub prefixGives : ℕ → ℕ → ℕ → ℕ → ℕ → PrefixReply
-prefixGives number place item textAt textLen =
-    record { number = number; place = place; item = item; «text_at» = textAt; «text_len» = textLen }
-
-abbrev pub prefixBeside : ℕ → ListingAnswer → PrefixReply
-prefixBeside number (listing.Done (From place item)) = prefixGives number place item 0 0
-prefixBeside number (listing.Done (BadHeader place text)) = prefixGives number 0 0 place text
-prefixBeside number listing.UnknownKind = prefixGives number 0 0 0 0
-prefixBeside number listing.TooLarge = prefixGives number 0 0 0 0
-
-abbrev pub prefixReply : ListingAnswer → PrefixReply
-prefixReply a = prefixBeside (listingNumber a) a
-
--- ---- the lookup that can be trusted on any bytes
-
--- no record: where the check says so, its place or its text
-abbrev pub askBare : ℕ → ℕ → ℕ → AskReply
-askBare number place textLen =
-    record { number = number; place = place; «name_at» = 0; «name_len» = 0; «peeled_at» = 0; «text_len» = textLen }
-
-abbrev pub askRefused : Numbered → AskReply
-askRefused r = askBare (r .number) (r .place) (r .«text_len»)
-
-abbrev pub askBeside : ℕ → ℕ → AskAnswer → AskReply
-askBeside number kind (ask.Done (told.Charted place r)) =
-    record {
-      number = number;
-      place = place;
-      «name_at» = nameAt kind place;
-      «name_len» = r .name;
-      «peeled_at» = peeledAt place (r .object);
-      «text_len» = 0;
-    }
-askBeside number kind (ask.Done told.Absent) = askBare number 0 0
-askBeside number kind (ask.Done told.BadName) = askBare number 0 0
-askBeside number kind (ask.Done (told.Refused why)) = askRefused (refusalBeside number why)
-askBeside number kind ask.UnknownKind = askBare number 0 0
-askBeside number kind ask.TooLarge = askBare number 0 0
-
-abbrev pub askReply : ℕ → AskAnswer → AskReply
-askReply kind a = askBeside (askNumber a) kind a
-
-abbrev pub AskNear : AskAnswer → Type 0
-AskNear a = (place : ℕ) (r : Record) → a ≡ ask.Done (told.Charted place r) → Near place r

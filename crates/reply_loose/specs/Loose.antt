@@ -4,7 +4,7 @@ use Rattle.loose.specs.declared.Loose.the-variants.{Id, Symbolic, Unreadable, B
 use Rattle.loose.specs.declared.LooseAnswer.{LooseAnswer}
 use Rattle.loose.specs.declared.LooseAnswer.the-variants.{Done, UnknownKind, TooLarge}
 use Rattle.loose.specs.Loose.{looseNumber}
-use Rattle.reply.specs.declared.content.LooseReply.{LooseReply}
+use Rattle.reply_loose.specs.declared.LooseReply.{LooseReply}
 
 abbrev pub looseGives : ℕ → ℕ → ℕ → ℕ → LooseReply
 looseGives number what at len = record { number = number; what = what; at = at; len = len }

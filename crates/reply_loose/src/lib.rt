@@ -1,7 +1,7 @@
-// The content of a loose reference file.
+// The reply to loose content: what the content of a loose reference file says.
 ghost use mathlib.Core.Path.{_≡_};
 ghost use Rattle.loose.specs.Loose.{looseAnswer};
-ghost use Rattle.reply.specs.Content.{looseReply, looseGives};
+ghost use Rattle.reply_loose.specs.Loose.{looseReply, looseGives};
 use loose::Loose;
 use loose::LooseAnswer;
 

@@ -3,12 +3,12 @@ use Prim.Native.Nat.{ℕ}
 use Rattle.edit.specs.declared.list.ListFault.{ListFault}
 use Rattle.edit.specs.declared.list.ListFault.the-variants.{BadEdit, TooMany}
 use Rattle.edit.specs.List.{listFaultNumber}
-use Rattle.reply.specs.declared.told.Numbered.{Numbered}
-use Rattle.reply.specs.Told.{refusalGives, refusalBeside}
+use Rattle.tell.specs.declared.Numbered.{Numbered}
+use Rattle.tell.specs.Told.{refusalGives, refusalBeside}
 use Rattle.merge.specs.declared.Merged.{Merged}
 use Rattle.merge.specs.declared.Merged.the-variants.{Done, UnknownKind, TooLarge, BadList, ShortIndex, Twins, Refused, NothingToDo, NoRecord, ShortOutput}
 use Rattle.merge.specs.Merge.{mergeNumber}
-use Rattle.host.specs.declared.write.MergeReply.{MergeReply}
+use Rattle.reply_merge.specs.declared.MergeReply.{MergeReply}
 
 abbrev pub mergeGives : ℕ → ℕ → ℕ → ℕ → MergeReply
 mergeGives number place len textLen = record { number = number; place = place; length = len; «text_len» = textLen }

@@ -1,13 +1,13 @@
-// The merge.
+// The reply to a merge.
 ghost use mathlib.Core.Path.{_≡_};
 ghost use lib.ListN.{length};
 ghost use Rattle.change.specs.Change.{editFaultNumber};
 ghost use Rattle.merge.specs.Merge.{mergeAnswer, indexAnswer, outputAfter};
-ghost use Rattle.host.specs.Write.{mergeReply, mergeGives, listFaultTold};
+ghost use Rattle.reply_merge.specs.Merge.{mergeReply, mergeGives, listFaultTold};
 use change::Fault;
 use edit::list::ListFault;
 use merge::Merged;
-use reply::told::Numbered;
+use tell::Numbered;
 
 #[repr(C)]
 pub struct MergeReply {
@@ -20,8 +20,7 @@ pub struct MergeReply {
     pub text_len: usize,
 }
 
-#[no_mangle]
-pub extern "C" fn packed_refs_merge(
+pub fn merge_reply(
     kind: u32,
     old: &[u8],
     edits: &[u8],
@@ -32,10 +31,10 @@ pub extern "C" fn packed_refs_merge(
     ensures { λ _. ⌜ now (index .exit) ≡ indexAnswer kind (now (old .entry)) (now (edits .entry)) (now (index .entry)) ⌝ }
     ensures { λ _. ⌜ now (out .exit) ≡ outputAfter kind (now (old .entry)) (now (edits .entry)) (length (now (index .entry))) (now (out .entry)) ⌝ }
 {
-    told(merge::merge(kind, old, edits, index, out))
+    merge_told(merge::merge(kind, old, edits, index, out))
 }
 
-fn told(merged: Merged) -> MergeReply
+fn merge_told(merged: Merged) -> MergeReply
     ensures { λ r. ⌜ r ≡ mergeReply merged ⌝ }
 {
     match merged {
@@ -49,7 +48,7 @@ fn told(merged: Merged) -> MergeReply
         Merged::ShortIndex => gives(10, 0, 0, 0),
         Merged::Twins(place) => gives(11, place as usize, 0, 0),
         Merged::Refused(why) => {
-            let told = reply::told::refusal(why);
+            let told = tell::refusal(why);
             gives(told.number, told.place, 0, told.text_len)
         }
         Merged::NothingToDo => gives(13, 0, 0, 0),
@@ -64,9 +63,9 @@ fn list_fault(why: ListFault) -> Numbered
 {
     match why {
         ListFault::BadEdit { place, fault } => {
-            reply::told::refusal_gives(edit_fault_number(fault), place, 0)
+            tell::refusal_gives(edit_fault_number(fault), place, 0)
         }
-        ListFault::TooMany(place) => reply::told::refusal_gives(9, place, 0),
+        ListFault::TooMany(place) => tell::refusal_gives(9, place, 0),
     }
 }
 

@@ -1,21 +1,19 @@
--- The places of a record that starts at a place, counted where that is counted; a refusal and what stands beside it; numbers for an enum.
+-- Where the parts of a record stand, counted where its start is counted; a refusal and what stands beside its number.
+use mathlib.Core.Bool.{_||_}
 use Prim.Native.Nat.{ℕ, _+_, _≤_}
 use lib.Dec.{eqb}
 use Rattle.parse.specs.declared.limit.IdKind.{IdKind}
 use Rattle.parse.specs.declared.limit.IdKind.the-variants.{Digits, Unknown}
 use Rattle.parse.specs.Choice.{if}
-use Rattle.parse.specs.Limit.{digitsOf}
+use Rattle.parse.specs.Limit.{digitsOf, overLimit}
 use Rattle.decode.specs.declared.reference.Record.{Record}
 use Rattle.checks.specs.declared.Refusal.{Refusal}
 use Rattle.checks.specs.declared.Refusal.the-variants.{BadHeader, BadRecord, Unsorted}
 use Rattle.checks.specs.Check.{refusalNumber}
-use Rattle.reply.specs.declared.told.Numbered.{Numbered}
-use Rattle.header.specs.declared.Peeled.{Peeled}
-use Rattle.header.specs.declared.Peeled.the-variants.{Unspecified, Partial, Fully}
+use Rattle.tell.specs.declared.Parts.{Parts}
+use Rattle.tell.specs.declared.Numbered.{Numbered}
 
--- a record that starts at a place, and its peeled id, lie in bytes under the size limit, so that their places fit
-abbrev pub Near : ℕ → Record → Type 0
-Near place r = (place ≤ 1073741824) × (r .object ≤ 1073741824)
+-- ---- a record
 
 -- the digits of an id; where the kind is unknown there are none
 abbrev pub idLen : IdKind → ℕ
@@ -30,6 +28,23 @@ nameAt kind place = place + idLen (digitsOf kind) + 1
 unfoldable pub peeledAt : ℕ → ℕ → ℕ
 peeledAt place object = if (eqb object 0) 0 (place + object)
 
+abbrev pub partsGive : ℕ → ℕ → ℕ → Parts
+partsGive name len peeled = record { «name_at» = name; «name_len» = len; «peeled_at» = peeled }
+
+-- the parts of a record that starts at a place
+abbrev pub partsOf : ℕ → ℕ → Record → Parts
+partsOf kind place r = partsGive (nameAt kind place) (r .name) (peeledAt place (r .object))
+
+-- what is told of them: beyond the size limit, nothing
+unfoldable pub partsTold : ℕ → ℕ → Record → Parts
+partsTold kind place r = if (overLimit place || overLimit (r .object)) (partsGive 0 0 0) (partsOf kind place r)
+
+-- a record that starts at a place, and its peeled id, lie in bytes under the size limit. Its parts are told as they are
+abbrev pub Near : ℕ → Record → Type 0
+Near place r = (place ≤ 1073741824) × (r .object ≤ 1073741824)
+
+-- ---- a refusal
+
 -- "Beside the number, check and merge give the item's place in the lent file for 4 and 6, .. and 2 its text; nothing else is given with a
 -- refusal."
 abbrev pub refusalGives : ℕ → ℕ → ℕ → Numbered
@@ -42,9 +57,3 @@ refusalBeside number (Unsorted place) = refusalGives number place 0
 
 abbrev pub refusalTold : Refusal → Numbered
 refusalTold why = refusalBeside (refusalNumber why) why
-
--- "one of three peeled states (unspecified, partial, fully)"
-abbrev pub peeledNumber : Peeled → ℕ
-peeledNumber Unspecified = 0
-peeledNumber Partial = 1
-peeledNumber Fully = 2

@@ -1,16 +1,51 @@
-// What several answers have in common: a record's places, a refusal, and numbers for enums.
+// What several replies have in common: where a record's parts stand, and a refusal with what stands beside its number.
 ghost use mathlib.Core.Path.{_≡_};
 ghost use Prim.Native.Nat.{_≤_};
-ghost use Rattle.parse.specs.Choice.{if};
 ghost use Rattle.decode.specs.Record.{faultNumber};
-ghost use Rattle.reply.specs.Told.{nameAt, peeledAt, refusalGives, refusalTold, peeledNumber};
+ghost use Rattle.tell.specs.Told.{nameAt, peeledAt, partsGive, partsTold, refusalGives, refusalTold};
 use checks::Refusal;
 use decode::reference::Fault;
-use header::Peeled;
+use decode::reference::Record;
 use parse::limit::IdKind;
 
+// Where the parts of a record stand, counted where its start is counted.
+pub struct Parts {
+    pub name_at: usize,
+    pub name_len: usize,
+    // 0 where there is no peeled id.
+    pub peeled_at: usize,
+}
+
+// The parts of a record that starts at a place. Lent bytes end at the size limit, so a record in them has no place beyond it; for one that had, the
+// sums might not fit, and every part is 0.
+pub fn parts_at(kind: u32, place: usize, found: Record) -> Parts
+    ensures { λ r. ⌜ r ≡ partsTold kind place found ⌝ }
+{
+    if parse::limit::over_limit(place) {
+        return parts_give(0, 0, 0);
+    }
+    if parse::limit::over_limit(found.object) {
+        return parts_give(0, 0, 0);
+    }
+    parts_give(
+        name_at(kind, place),
+        found.name,
+        peeled_at(place, found.object),
+    )
+}
+
+fn parts_give(name: usize, len: usize, peeled: usize) -> Parts
+    ensures { λ r. ⌜ r ≡ partsGive name len peeled ⌝ }
+{
+    Parts {
+        name_at: name,
+        name_len: len,
+        peeled_at: peeled,
+    }
+}
+
 // Where the name stands of a record that starts at a place: behind the id and one space.
-pub(crate) fn name_at(kind: u32, place: usize) -> usize
+fn name_at(kind: u32, place: usize) -> usize
     requires { ⌜ place ≤ 1073741824 ⌝ }
     ensures { λ r. ⌜ r ≡ nameAt kind place ⌝ }
 {
@@ -21,7 +56,7 @@ pub(crate) fn name_at(kind: u32, place: usize) -> usize
 }
 
 // Where the peeled id stands, or 0 where there is none.
-pub(crate) fn peeled_at(place: usize, object: usize) -> usize
+fn peeled_at(place: usize, object: usize) -> usize
     requires { ⌜ (place ≤ 1073741824) × (object ≤ 1073741824) ⌝ }
     ensures { λ r. ⌜ r ≡ peeledAt place object ⌝ }
 {
@@ -70,24 +105,4 @@ pub fn fault_number(fault: Fault) -> u32
         Fault::Name => 4,
         Fault::Peeled => 4,
     }
-}
-
-// 0 unspecified, 1 partial, 2 fully.
-pub(crate) fn peeled_number(peeled: Peeled) -> u32
-    ensures { λ r. ⌜ r ≡ peeledNumber peeled ⌝ }
-{
-    match peeled {
-        Peeled::Unspecified => 0,
-        Peeled::Partial => 1,
-        Peeled::Fully => 2,
-    }
-}
-
-pub(crate) fn flag(b: bool) -> u32
-    ensures { λ r. ⌜ r ≡ if b 1 0 ⌝ }
-{
-    if b {
-        return 1;
-    }
-    0
 }

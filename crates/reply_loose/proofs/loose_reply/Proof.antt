@@ -1,9 +1,9 @@
--- `reply::content::loose_reply` meets its contract: the layer's answer, told.
+-- `reply_loose::loose_reply` meets its contract: the layer's answer, told.
 use mathlib.Core.Path.{ap, _∙_}
-use Rattle.reply.specs.Content.{looseReply}
+use Rattle.reply_loose.specs.Loose.{looseReply}
 use borrow.Author.Needs.{needs}
-use Rattle.reply.proofs.content.loose_reply.Statement.{statement}
-use Rattle.reply.proofs.content.loose_reply.Tie as tie
+use Rattle.reply_loose.proofs.loose_reply.Statement.{statement}
+use Rattle.reply_loose.proofs.loose_reply.Tie as tie
 
 read-requires : tie.Need-read-requires
 read-requires c κs = search needs

@@ -1,7 +1,7 @@
--- `reply::content::loose_told` meets its contract.
+-- `reply_loose::loose_told` meets its contract.
 use borrow.Author.Needs.{needs}
-use Rattle.reply.proofs.content.loose_told.Statement.{statement}
-use Rattle.reply.proofs.content.loose_told.Tie as tie
+use Rattle.reply_loose.proofs.loose_told.Statement.{statement}
+use Rattle.reply_loose.proofs.loose_told.Tie as tie
 
 enum-known-answer : tie.Need-enum-known-answer
 enum-known-answer c = search needs

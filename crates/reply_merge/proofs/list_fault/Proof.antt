@@ -1,7 +1,7 @@
--- `host::write::list_fault` meets its contract.
+-- `reply_merge::list_fault` meets its contract.
 use borrow.Author.Needs.{needs}
-use Rattle.host.proofs.write.list_fault.Statement.{statement}
-use Rattle.host.proofs.write.list_fault.Tie as tie
+use Rattle.reply_merge.proofs.list_fault.Statement.{statement}
+use Rattle.reply_merge.proofs.list_fault.Tie as tie
 
 enum-known-why : tie.Need-enum-known-why
 enum-known-why c = search needs

@@ -1,15 +1,15 @@
--- `host::write::packed_refs_merge` meets its contract.
+-- `reply_merge::merge_reply` meets its contract: the layer's answer, told.
 use mathlib.Core.Path.{ap, _∙_}
-use Rattle.host.specs.Write.{mergeReply}
+use Rattle.reply_merge.specs.Merge.{mergeReply}
 use borrow.Author.Needs.{needs}
-use Rattle.host.proofs.write.packed_refs_merge.Statement.{statement}
-use Rattle.host.proofs.write.packed_refs_merge.Tie as tie
+use Rattle.reply_merge.proofs.merge_reply.Statement.{statement}
+use Rattle.reply_merge.proofs.merge_reply.Tie as tie
 
 merge-requires : tie.Need-merge-requires
 merge-requires c κs = search needs
 
-told-requires : tie.Need-told-requires
-told-requires c κs = search needs
+merge-told-requires : tie.Need-merge-told-requires
+merge-told-requires c κs = search needs
 
 same-length : tie.Need-same-length
 same-length c = search needs
@@ -20,8 +20,8 @@ same-length-2 c = search needs
 returns : tie.Need-returns
 returns c =
     let m = c .before .before .before .before .before in
-    (c .told .ensures ∙ ap mergeReply (m .merge .ensures .0), (m .merge .ensures .1 .0, m .merge .ensures .1 .1))
+    (c .merge-told .ensures ∙ ap mergeReply (m .merge .ensures .0), (m .merge .ensures .1 .0, m .merge .ensures .1 .1))
 
-pub packed-refs-merge-spec : {M : Type 1} → statement M
-packed-refs-merge-spec =
-    tie.close (tie.spec merge-requires told-requires same-length same-length-2 returns)
+pub merge-reply-spec : {M : Type 1} → statement M
+merge-reply-spec =
+    tie.close (tie.spec merge-requires merge-told-requires same-length same-length-2 returns)

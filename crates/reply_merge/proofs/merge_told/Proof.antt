@@ -1,9 +1,9 @@
--- `host::write::told` meets its contract.
+-- `reply_merge::merge_told` meets its contract.
 use mathlib.Core.Path.{ap, _∙_}
-use Rattle.host.specs.Write.{mergeRefused}
+use Rattle.reply_merge.specs.Merge.{mergeRefused}
 use borrow.Author.Needs.{needs}
-use Rattle.host.proofs.write.told.Statement.{statement}
-use Rattle.host.proofs.write.told.Tie as tie
+use Rattle.reply_merge.proofs.merge_told.Statement.{statement}
+use Rattle.reply_merge.proofs.merge_told.Tie as tie
 
 enum-known-merged : tie.Need-enum-known-merged
 enum-known-merged c = search needs
@@ -104,8 +104,8 @@ returns-9 c = rw (c .before .enum-told5 .given .1) (c .gives9 .ensures)
 returns-10 : tie.Need-returns-10
 returns-10 c = rw (c .before .enum-told6 .given .1) (c .gives10 .ensures)
 
-pub told-spec : {M : Type 1} → statement M
-told-spec =
+pub merge-told-spec : {M : Type 1} → statement M
+merge-told-spec =
     tie.close
     (tie.spec
     enum-known-merged

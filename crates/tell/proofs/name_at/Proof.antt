@@ -1,14 +1,14 @@
--- `reply::told::name_at` meets its contract.
+-- `tell::name_at` meets its contract.
 use mathlib.Core.Path.{_≡_, sym, _∙_}
 use Prim.Native.Nat.{_≤_}
 use native.Mathlib.Omega.{arith}
 use Rattle.parse.specs.declared.limit.IdKind.{IdKind}
 use Rattle.parse.specs.Limit.{digitsOf}
 use Rattle.parse.proofs.Admitted.{few-digits}
-use Rattle.reply.specs.Told.{nameAt}
+use Rattle.tell.specs.Told.{nameAt}
 use borrow.Author.Needs.{needs}
-use Rattle.reply.proofs.told.name_at.Statement.{statement}
-use Rattle.reply.proofs.told.name_at.Tie as tie
+use Rattle.tell.proofs.name_at.Statement.{statement}
+use Rattle.tell.proofs.name_at.Tie as tie
 
 -- the digits were asked
 module _ (a : tie.After-digits) where

@@ -1,9 +1,9 @@
--- `reply::told::peeled_at` meets its contract.
+-- `tell::peeled_at` meets its contract.
 use borrow.Author.Tests.{eq-eqb, ne-eqb}
-use Rattle.reply.specs.Told.{peeledAt}
+use Rattle.tell.specs.Told.{peeledAt}
 use borrow.Author.Needs.{needs}
-use Rattle.reply.proofs.told.peeled_at.Statement.{statement}
-use Rattle.reply.proofs.told.peeled_at.Tie as tie
+use Rattle.tell.proofs.peeled_at.Statement.{statement}
+use Rattle.tell.proofs.peeled_at.Tie as tie
 
 returns : tie.Need-returns
 unfolding peeledAt

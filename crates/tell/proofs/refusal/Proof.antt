@@ -1,7 +1,7 @@
--- `reply::told::refusal` meets its contract.
+-- `tell::refusal` meets its contract.
 use borrow.Author.Needs.{needs}
-use Rattle.reply.proofs.told.refusal.Statement.{statement}
-use Rattle.reply.proofs.told.refusal.Tie as tie
+use Rattle.tell.proofs.refusal.Statement.{statement}
+use Rattle.tell.proofs.refusal.Tie as tie
 
 enum-known-why : tie.Need-enum-known-why
 enum-known-why c = search needs

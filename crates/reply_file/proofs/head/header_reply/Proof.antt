@@ -1,9 +1,9 @@
--- `reply::head::header_reply` meets its contract: the layer's answer, told.
+-- `reply_file::head::header_reply` meets its contract: the layer's answer, told.
 use mathlib.Core.Path.{ap, _∙_}
-use Rattle.reply.specs.Head.{headerReply}
+use Rattle.reply_file.specs.Head.{headerReply}
 use borrow.Author.Needs.{needs}
-use Rattle.reply.proofs.head.header_reply.Statement.{statement}
-use Rattle.reply.proofs.head.header_reply.Tie as tie
+use Rattle.reply_file.proofs.head.header_reply.Statement.{statement}
+use Rattle.reply_file.proofs.head.header_reply.Tie as tie
 
 read-header-requires : tie.Need-read-header-requires
 read-header-requires c κs = search needs

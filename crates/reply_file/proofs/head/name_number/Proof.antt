@@ -1,9 +1,9 @@
--- `reply::head::name_number` meets its contract.
+-- `reply_file::head::name_number` meets its contract.
 use mathlib.Core.Path.{sym, _∙_}
-use Rattle.reply.specs.Head.{nameNumber}
+use Rattle.reply_file.specs.Head.{nameNumber}
 use borrow.Author.Needs.{needs}
-use Rattle.reply.proofs.head.name_number.Statement.{statement}
-use Rattle.reply.proofs.head.name_number.Tie as tie
+use Rattle.reply_file.proofs.head.name_number.Statement.{statement}
+use Rattle.reply_file.proofs.head.name_number.Tie as tie
 
 over-limit-requires : tie.Need-over-limit-requires
 over-limit-requires c κs = search needs

@@ -1,9 +1,9 @@
--- `reply::walk::check_reply` meets its contract: the layer's answer, told.
+-- `reply_file::verdict::check_reply` meets its contract: the layer's answer, told.
 use mathlib.Core.Path.{ap, _∙_}
-use Rattle.reply.specs.Walk.{checkReply}
+use Rattle.reply_file.specs.Verdict.{checkReply}
 use borrow.Author.Needs.{needs}
-use Rattle.reply.proofs.walk.check_reply.Statement.{statement}
-use Rattle.reply.proofs.walk.check_reply.Tie as tie
+use Rattle.reply_file.proofs.verdict.check_reply.Statement.{statement}
+use Rattle.reply_file.proofs.verdict.check_reply.Tie as tie
 
 check-requires : tie.Need-check-requires
 check-requires c κs = search needs

@@ -1,9 +1,9 @@
--- `reply::walk::check_told` meets its contract.
+-- `reply_file::verdict::check_told` meets its contract.
 use mathlib.Core.Path.{ap, _∙_}
-use Rattle.reply.specs.Walk.{checkRefused}
+use Rattle.reply_file.specs.Verdict.{checkRefused}
 use borrow.Author.Needs.{needs}
-use Rattle.reply.proofs.walk.check_told.Statement.{statement}
-use Rattle.reply.proofs.walk.check_told.Tie as tie
+use Rattle.reply_file.proofs.verdict.check_told.Statement.{statement}
+use Rattle.reply_file.proofs.verdict.check_told.Tie as tie
 
 enum-known-answer : tie.Need-enum-known-answer
 enum-known-answer c = search needs

@@ -1,10 +1,10 @@
--- `reply::walk::prefix_step_reply` meets its contract: the layer's answer, told.
+-- `reply_file::walk::prefix_step_reply` meets its contract: the layer's answer, told.
 use mathlib.Core.Path.{sym, ap, _∙_}
-use Rattle.reply.specs.Walk.{stepReply}
-use Rattle.reply.proofs.Near.{step-near}
+use Rattle.reply_file.specs.Walk.{stepReply}
+use Rattle.reply_file.proofs.Near.{step-near}
 use borrow.Author.Needs.{needs}
-use Rattle.reply.proofs.walk.prefix_step_reply.Statement.{statement}
-use Rattle.reply.proofs.walk.prefix_step_reply.Tie as tie
+use Rattle.reply_file.proofs.walk.prefix_step_reply.Statement.{statement}
+use Rattle.reply_file.proofs.walk.prefix_step_reply.Tie as tie
 
 -- what was lent
 module _ (a : tie.After-next-with-prefix) where

@@ -1,9 +1,9 @@
--- `reply::walk::start_reply` meets its contract: the layer's answer, told.
+-- `reply_file::walk::start_reply` meets its contract: the layer's answer, told.
 use mathlib.Core.Path.{ap, _∙_}
-use Rattle.reply.specs.Walk.{startReply}
+use Rattle.reply_file.specs.Walk.{startReply}
 use borrow.Author.Needs.{needs}
-use Rattle.reply.proofs.walk.start_reply.Statement.{statement}
-use Rattle.reply.proofs.walk.start_reply.Tie as tie
+use Rattle.reply_file.proofs.walk.start_reply.Statement.{statement}
+use Rattle.reply_file.proofs.walk.start_reply.Tie as tie
 
 begin-requires : tie.Need-begin-requires
 begin-requires c κs = search needs

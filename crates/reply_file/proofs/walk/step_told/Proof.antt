@@ -1,13 +1,14 @@
--- `reply::walk::step_told` meets its contract.
+-- `reply_file::walk::step_told` meets its contract.
 use mathlib.Core.Path.{_≡_, ap, _∙_}
 use Rattle.iter.specs.declared.step.StepAnswer.the-variants.{Done}
 use Prim.Native.Nat.{ℕ}
 use Rattle.decode.specs.declared.reference.Record.{Record}
 use Rattle.iter.specs.declared.step.Step.the-variants.{Good}
-use Rattle.reply.specs.Told.{Near}
+use Rattle.tell.specs.Told.{Near}
+use Rattle.tell.proofs.Near.{told-near}
 use borrow.Author.Needs.{needs}
-use Rattle.reply.proofs.walk.step_told.Statement.{statement}
-use Rattle.reply.proofs.walk.step_told.Tie as tie
+use Rattle.reply_file.proofs.walk.step_told.Statement.{statement}
+use Rattle.reply_file.proofs.walk.step_told.Tie as tie
 
 -- where it is a record, its places fit
 module _ (k : tie.After-known-told) where
@@ -29,11 +30,8 @@ step-bare-requires c κs = search needs
 enum-known-said-2 : tie.Need-enum-known-said-2
 enum-known-said-2 c = search needs
 
-name-at-requires : tie.Need-name-at-requires
-name-at-requires c κs = near (c .before .before .before) (c .before .said2 .given .1) .0
-
-peeled-at-requires : tie.Need-peeled-at-requires
-peeled-at-requires c κs = near (c .before .before .before .before) (c .before .before .said2 .given .1)
+parts-at-requires : tie.Need-parts-at-requires
+parts-at-requires c κs = search needs
 
 enum-known-said-3 : tie.Need-enum-known-said-3
 enum-known-said-3 c = search needs
@@ -54,7 +52,10 @@ returns : tie.Need-returns
 returns c = rw (c .before .before .before .before .before .answer .given .1, c .before .before .said .given .1) (c .step-bare .ensures)
 
 returns-2 : tie.Need-returns-2
-returns-2 c = rw (c .before .before .before .before .before .before .answer .given .1, c .before .before .before .said2 .given .1, c .before .name-at .ensures, c .peeled-at .ensures)
+returns-2 c =
+    let known = c .before .before .before .before in
+    let good = c .before .before .said2 .given .1 in
+    rw (known .before .answer .given .1, good, c .parts-at .ensures ∙ told-near _ _ _ (near known good))
 
 returns-3 : tie.Need-returns-3
 returns-3 c = rw (c .before .before .before .before .answer .given .1, c .before .said3 .given .1)
@@ -73,8 +74,7 @@ step-told-spec =
     enum-known-said
     step-bare-requires
     enum-known-said-2
-    name-at-requires
-    peeled-at-requires
+    parts-at-requires
     enum-known-said-3
     enum-told
     step-bare-requires-2

@@ -1,10 +1,10 @@
--- `reply::seek::ask_reply` meets its contract: the layer's answer, told.
+-- `reply_lookup::asked::ask_reply` meets its contract: the layer's answer, told.
 use mathlib.Core.Path.{sym, ap, _∙_}
-use Rattle.reply.specs.Seek.{askReply}
-use Rattle.reply.proofs.Near.{ask-near}
+use Rattle.reply_lookup.specs.Asked.{askReply}
+use Rattle.reply_lookup.proofs.Near.{ask-near}
 use borrow.Author.Needs.{needs}
-use Rattle.reply.proofs.seek.ask_reply.Statement.{statement}
-use Rattle.reply.proofs.seek.ask_reply.Tie as tie
+use Rattle.reply_lookup.proofs.asked.ask_reply.Statement.{statement}
+use Rattle.reply_lookup.proofs.asked.ask_reply.Tie as tie
 
 -- what was lent
 module _ (a : tie.After-ask) where

@@ -1,14 +1,15 @@
--- `reply::seek::ask_told` meets its contract.
+-- `reply_lookup::asked::ask_told` meets its contract.
 use mathlib.Core.Path.{_≡_, ap, _∙_}
 use Rattle.ask.specs.declared.AskAnswer.the-variants.{Done}
 use Prim.Native.Nat.{ℕ}
 use Rattle.decode.specs.declared.reference.Record.{Record}
 use Rattle.ask.specs.declared.Told.the-variants.{Charted}
-use Rattle.reply.specs.Told.{Near}
-use Rattle.reply.specs.Seek.{askRefused}
+use Rattle.tell.specs.Told.{Near}
+use Rattle.tell.proofs.Near.{told-near}
+use Rattle.reply_lookup.specs.Asked.{askRefused}
 use borrow.Author.Needs.{needs}
-use Rattle.reply.proofs.seek.ask_told.Statement.{statement}
-use Rattle.reply.proofs.seek.ask_told.Tie as tie
+use Rattle.reply_lookup.proofs.asked.ask_told.Statement.{statement}
+use Rattle.reply_lookup.proofs.asked.ask_told.Tie as tie
 
 -- where it is a record, its places fit
 module _ (k : tie.After-known-told) where
@@ -21,11 +22,8 @@ enum-known-answer c = search needs
 enum-known-said : tie.Need-enum-known-said
 enum-known-said c = search needs
 
-name-at-requires : tie.Need-name-at-requires
-name-at-requires c κs = near (c .before .before .before) (c .before .said .given .1) .0
-
-peeled-at-requires : tie.Need-peeled-at-requires
-peeled-at-requires c κs = near (c .before .before .before .before) (c .before .before .said .given .1)
+parts-at-requires : tie.Need-parts-at-requires
+parts-at-requires c κs = search needs
 
 enum-told : tie.Need-enum-told
 enum-told c = search needs
@@ -61,7 +59,10 @@ ask-bare-requires-5 : tie.Need-ask-bare-requires-5
 ask-bare-requires-5 c κs = search needs
 
 returns : tie.Need-returns
-returns c = rw (c .before .before .before .before .before .before .answer .given .1, c .before .before .before .said .given .1, c .before .name-at .ensures, c .peeled-at .ensures)
+returns c =
+    let known = c .before .before .before .before in
+    let charted = c .before .before .said .given .1 in
+    rw (known .before .answer .given .1, charted, c .parts-at .ensures ∙ told-near _ _ _ (near known charted))
 
 returns-2 : tie.Need-returns-2
 returns-2 c = rw (c .before .before .before .before .answer .given .1, c .before .enum-told .given .1) (c .ask-bare .ensures)
@@ -86,8 +87,7 @@ ask-told-spec =
     (tie.spec
     enum-known-answer
     enum-known-said
-    name-at-requires
-    peeled-at-requires
+    parts-at-requires
     enum-told
     ask-bare-requires
     enum-told-2

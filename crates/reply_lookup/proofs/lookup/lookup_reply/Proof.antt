@@ -1,10 +1,10 @@
--- `reply::seek::lookup_reply` meets its contract: the layer's answer, told.
+-- `reply_lookup::lookup::lookup_reply` meets its contract: the layer's answer, told.
 use mathlib.Core.Path.{sym, ap, _∙_}
-use Rattle.reply.specs.Seek.{lookupReply}
-use Rattle.reply.proofs.Near.{lookup-near}
+use Rattle.reply_lookup.specs.Lookup.{lookupReply}
+use Rattle.reply_lookup.proofs.Near.{lookup-near}
 use borrow.Author.Needs.{needs}
-use Rattle.reply.proofs.seek.lookup_reply.Statement.{statement}
-use Rattle.reply.proofs.seek.lookup_reply.Tie as tie
+use Rattle.reply_lookup.proofs.lookup.lookup_reply.Statement.{statement}
+use Rattle.reply_lookup.proofs.lookup.lookup_reply.Tie as tie
 
 -- what was lent
 module _ (a : tie.After-find) where

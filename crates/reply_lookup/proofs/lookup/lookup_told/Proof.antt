@@ -1,13 +1,14 @@
--- `reply::seek::lookup_told` meets its contract.
+-- `reply_lookup::lookup::lookup_told` meets its contract.
 use mathlib.Core.Path.{_≡_, ap, _∙_}
 use Rattle.find.specs.declared.lookup.LookupAnswer.the-variants.{Done}
 use Prim.Native.Nat.{ℕ}
 use Rattle.decode.specs.declared.reference.Record.{Record}
 use Rattle.find.specs.declared.lookup.Lookup.the-variants.{Charted}
-use Rattle.reply.specs.Told.{Near}
+use Rattle.tell.specs.Told.{Near}
+use Rattle.tell.proofs.Near.{told-near}
 use borrow.Author.Needs.{needs}
-use Rattle.reply.proofs.seek.lookup_told.Statement.{statement}
-use Rattle.reply.proofs.seek.lookup_told.Tie as tie
+use Rattle.reply_lookup.proofs.lookup.lookup_told.Statement.{statement}
+use Rattle.reply_lookup.proofs.lookup.lookup_told.Tie as tie
 
 -- where it is a record, its places fit
 module _ (k : tie.After-known-told) where
@@ -20,11 +21,8 @@ enum-known-answer c = search needs
 enum-known-said : tie.Need-enum-known-said
 enum-known-said c = search needs
 
-name-at-requires : tie.Need-name-at-requires
-name-at-requires c κs = near (c .before .before .before) (c .before .said .given .1) .0
-
-peeled-at-requires : tie.Need-peeled-at-requires
-peeled-at-requires c κs = near (c .before .before .before .before) (c .before .before .said .given .1)
+parts-at-requires : tie.Need-parts-at-requires
+parts-at-requires c κs = search needs
 
 enum-known-said-2 : tie.Need-enum-known-said-2
 enum-known-said-2 c = search needs
@@ -66,7 +64,10 @@ lookup-bare-requires-6 : tie.Need-lookup-bare-requires-6
 lookup-bare-requires-6 c κs = search needs
 
 returns : tie.Need-returns
-returns c = rw (c .before .before .before .before .before .before .answer .given .1, c .before .before .before .said .given .1, c .before .name-at .ensures, c .peeled-at .ensures)
+returns c =
+    let known = c .before .before .before .before in
+    let charted = c .before .before .said .given .1 in
+    rw (known .before .answer .given .1, charted, c .parts-at .ensures ∙ told-near _ _ _ (near known charted))
 
 returns-2 : tie.Need-returns-2
 returns-2 c = rw (c .before .before .before .before .before .before .answer .given .1, c .before .before .before .said2 .given .1, ← c .before .fault-number .ensures) (c .lookup-bare .ensures)
@@ -92,8 +93,7 @@ lookup-told-spec =
     (tie.spec
     enum-known-answer
     enum-known-said
-    name-at-requires
-    peeled-at-requires
+    parts-at-requires
     enum-known-said-2
     fault-number-requires
     lookup-bare-requires

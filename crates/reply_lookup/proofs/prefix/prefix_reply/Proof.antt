@@ -1,9 +1,9 @@
--- `reply::seek::prefix_reply` meets its contract: the layer's answer, told.
+-- `reply_lookup::prefix::prefix_reply` meets its contract: the layer's answer, told.
 use mathlib.Core.Path.{ap, _∙_}
-use Rattle.reply.specs.Seek.{prefixReply}
+use Rattle.reply_lookup.specs.Prefix.{prefixReply}
 use borrow.Author.Needs.{needs}
-use Rattle.reply.proofs.seek.prefix_reply.Statement.{statement}
-use Rattle.reply.proofs.seek.prefix_reply.Tie as tie
+use Rattle.reply_lookup.proofs.prefix.prefix_reply.Statement.{statement}
+use Rattle.reply_lookup.proofs.prefix.prefix_reply.Tie as tie
 
 list-requires : tie.Need-list-requires
 list-requires c κs = search needs

@@ -1,7 +1,7 @@
--- `reply::seek::prefix_told` meets its contract.
+-- `reply_lookup::prefix::prefix_told` meets its contract.
 use borrow.Author.Needs.{needs}
-use Rattle.reply.proofs.seek.prefix_told.Statement.{statement}
-use Rattle.reply.proofs.seek.prefix_told.Tie as tie
+use Rattle.reply_lookup.proofs.prefix.prefix_told.Statement.{statement}
+use Rattle.reply_lookup.proofs.prefix.prefix_told.Tie as tie
 
 enum-known-answer : tie.Need-enum-known-answer
 enum-known-answer c = search needs
