@@ -18,6 +18,7 @@ askBare number place textLen =
 abbrev pub askRefused : Numbered → AskReply
 askRefused r = askBare (r .number) (r .place) (r .«text_len»)
 
+-- what stands beside a number
 abbrev pub askBeside : ℕ → ℕ → AskAnswer → AskReply
 askBeside number kind (Done (Charted place r)) =
     record {
@@ -37,5 +38,6 @@ askBeside number kind TooLarge = askBare number 0 0
 abbrev pub askReply : ℕ → AskAnswer → AskReply
 askReply kind a = askBeside (askNumber a) kind a
 
+-- what is asked of an answer that is to be told
 abbrev pub AskNear : AskAnswer → Type 0
 AskNear a = (place : ℕ) (r : Record) → a ≡ Done (Charted place r) → Near place r

@@ -10,6 +10,7 @@ abbrev pub prefixGives : ℕ → ℕ → ℕ → ℕ → ℕ → PrefixReply
 prefixGives number place item textAt textLen =
     record { number = number; place = place; item = item; «text_at» = textAt; «text_len» = textLen }
 
+-- what stands beside a number
 abbrev pub prefixBeside : ℕ → ListingAnswer → PrefixReply
 prefixBeside number (Done (From place item)) = prefixGives number place item 0 0
 prefixBeside number (Done (BadHeader place text)) = prefixGives number 0 0 place text

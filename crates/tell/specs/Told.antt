@@ -39,7 +39,8 @@ partsOf kind place r = partsGive (nameAt kind place) (r .name) (peeledAt place (
 unfoldable pub partsTold : ℕ → ℕ → Record → Parts
 partsTold kind place r = if (overLimit place || overLimit (r .object)) (partsGive 0 0 0) (partsOf kind place r)
 
--- a record that starts at a place, and its peeled id, lie in bytes under the size limit. Its parts are told as they are
+-- a record that starts at a place, and its peeled id, stand under the size limit, as they do in lent bytes: its parts are told as they are
+-- (`told-near`, proofs/Near.antt)
 abbrev pub Near : ℕ → Record → Type 0
 Near place r = (place ≤ 1073741824) × (r .object ≤ 1073741824)
 
