@@ -52,7 +52,7 @@ impl Input {
                 Err(error) if matches!(error.trouble(), OpenTrouble::NotThere) => return Ok(None),
                 read => read.map_err(|error| refusal(path, &error))?,
             };
-            if !input.is_young() || !needs_all(&input)? || input.is_settled() {
+            if (input.stands() && !input.is_young()) || !needs_all(&input)? || input.is_settled() {
                 return Ok(Some(input));
             }
         }
@@ -88,11 +88,16 @@ impl Input {
         self.before.is_some_and(|before| before.is_young())
     }
 
-    /// Whether it stands for a while as it stood before it was read.
-    fn is_settled(&self) -> bool {
-        std::thread::sleep(QUIET);
+    /// Whether it stands as it stood before it was read.
+    fn stands(&self) -> bool {
         let now = self.path().and_then(|path| std::fs::metadata(path).ok());
         now.and_then(|about| State::of(&about)) == self.before
+    }
+
+    /// Whether it still does so after a while.
+    fn is_settled(&self) -> bool {
+        std::thread::sleep(QUIET);
+        self.stands()
     }
 
     /// Where it is, unless it is standard input.
