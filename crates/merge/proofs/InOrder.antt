@@ -7,14 +7,14 @@ use Rattle.compare.specs.declared.order.Order.{Order}
 use Rattle.compare.specs.declared.order.Order.the-variants.{Less, Equal, Greater}
 use Rattle.compare.specs.Order.{orderOf}
 use Rattle.compare.proofs.Orders.{order-equal, less-flip, less-trans}
-use Rattle.places.specs.Order.{isEqual, same}
+use Rattle.places.specs.Order.{isEqual, sameName}
 use Rattle.lines.specs.Lines.{Entry}
 use Rattle.merge.proofs.Entries.{Ascends}
 
-pub same-greater : (a b : List ℕ) → orderOf a b ≡ Less → same b a ≡ false
+pub same-greater : (a b : List ℕ) → orderOf a b ≡ Less → sameName b a ≡ false
 same-greater a b h = ap isEqual (less-flip a b h)
 
-pub same-is : (a b : List ℕ) → same a b ≡ true → a ≡ b
+pub same-is : (a b : List ℕ) → sameName a b ≡ true → a ≡ b
 same-is a b h = go (orderOf a b) refl h
   where
     go : (o : Order) → orderOf a b ≡ o → isEqual o ≡ true → a ≡ b

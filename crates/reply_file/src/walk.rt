@@ -97,8 +97,15 @@ fn step_told(kind: u32, place: usize, answer: StepAnswer) -> StepReply
 {
     match answer {
         StepAnswer::Done(said) => match said {
-            Step::End { next, item } => step_bare(0, next, item),
-            Step::Good { found, next, item } => {
+            Step::End {
+                next,
+                next_item: item,
+            } => step_bare(0, next, item),
+            Step::Good {
+                found,
+                next,
+                next_item: item,
+            } => {
                 let parts = tell::parts_at(kind, place, found);
                 StepReply {
                     number: 0,
@@ -115,10 +122,10 @@ fn step_told(kind: u32, place: usize, answer: StepAnswer) -> StepReply
             }
             Step::Error {
                 fault: _,
-                number,
+                item: number,
                 text,
                 next,
-                item,
+                next_item: item,
             } => StepReply {
                 number: 0,
                 what: 2,

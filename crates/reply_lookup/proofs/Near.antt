@@ -17,15 +17,15 @@ use Rattle.header.proofs.Headers.{body-inside}
 use Rattle.iter.specs.Items.{Item}
 use Rattle.iter.specs.Stands.{Stands}
 use Rattle.iter.proofs.Each.{each}
-use Rattle.search.specs.declared.Found.{Found}
-use Rattle.search.specs.declared.Found.the-variants.{Hit, Miss}
+use Rattle.search.specs.declared.Halved.{Halved}
+use Rattle.search.specs.declared.Halved.the-variants.{Hit, Miss}
 use Rattle.find.specs.declared.lookup.Lookup.the-variants as lookup
 use Rattle.find.specs.declared.lookup.LookupAnswer.the-variants as found
 use Rattle.ask.specs.declared.Told.the-variants as told
 use Rattle.ask.specs.declared.AskAnswer.the-variants as asked
 use Rattle.search.specs.Search.{searchOf}
 use Rattle.find.specs.Lookup.{readAt, lookupBy, lookupOf, lookupAnswer}
-use Rattle.find.specs.Listing.{placeOf}
+use Rattle.find.specs.PrefixStart.{placeOf}
 use Rattle.ask.specs.Ask.{askOf, askAnswer}
 use Rattle.find.proofs.Places.{search-inside}
 use Rattle.ask.proofs.Trusted.{trusted}
@@ -39,7 +39,7 @@ module _ (n : ℕ) (s name : List ℕ) {place : ℕ} {r : Record} where
   read-at at (reading.Good q) e = (cc, cc)
   read-at at (reading.Bad f) e = absurd (let z : _≡_ {A = ℕ} 0 1 = cc in omega arith)
 
-  lookup-by : (found : Found) → placeOf found ≤ length s → lookupBy paper n s found ≡ lookup.Charted place r → Lies n s place r
+  lookup-by : (found : Halved) → placeOf found ≤ length s → lookupBy paper n s found ≡ lookup.Charted place r → Lies n s place r
   lookup-by (Hit at) inside e =
       let (same, good) = read-at at (recordOf paper n (drop at s)) e in
       (rw same at inside, rw same at good)

@@ -25,8 +25,8 @@ askBeside number kind (Done (Charted place r)) =
       number = number;
       place = place;
       «name_at» = nameAt kind place;
-      «name_len» = r .name;
-      «peeled_at» = peeledAt place (r .object);
+      «name_len» = r .«name_len»;
+      «peeled_at» = peeledAt place (r .peeled);
       «text_len» = 0;
     }
 askBeside number kind (Done Absent) = askBare number 0 0

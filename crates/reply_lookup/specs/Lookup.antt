@@ -20,8 +20,8 @@ lookupBeside number kind (Done (Charted place r)) =
       number = number;
       place = place;
       «name_at» = nameAt kind place;
-      «name_len» = r .name;
-      «peeled_at» = peeledAt place (r .object);
+      «name_len» = r .«name_len»;
+      «peeled_at» = peeledAt place (r .peeled);
     }
 lookupBeside number kind (Done (BadRecord place f)) = lookupBare number place
 lookupBeside number kind (Done Unsure) = lookupBare number 0

@@ -1,9 +1,9 @@
 // Where the listing of a prefix starts.
 ghost use mathlib.Core.Path.{_≡_};
-ghost use Rattle.find.specs.Listing.{listingAnswer};
+ghost use Rattle.find.specs.PrefixStart.{prefixStartAnswer};
 ghost use Rattle.reply_lookup.specs.Prefix.{prefixReply, prefixGives};
-use find::listing::Listing;
-use find::listing::ListingAnswer;
+use find::prefix_start::PrefixStart;
+use find::prefix_start::PrefixStartAnswer;
 
 #[repr(C)]
 pub struct PrefixReply {
@@ -17,21 +17,21 @@ pub struct PrefixReply {
 }
 
 pub fn prefix_reply(kind: u32, body: &[u8], prefix: &[u8]) -> PrefixReply
-    ensures { λ r. ⌜ r ≡ prefixReply (listingAnswer kind (now (body .entry)) (now (prefix .entry))) ⌝ }
+    ensures { λ r. ⌜ r ≡ prefixReply (prefixStartAnswer kind (now (body .entry)) (now (prefix .entry))) ⌝ }
 {
-    prefix_told(find::listing::list(kind, body, prefix))
+    prefix_told(find::prefix_start::begin(kind, body, prefix))
 }
 
-fn prefix_told(answer: ListingAnswer) -> PrefixReply
+fn prefix_told(answer: PrefixStartAnswer) -> PrefixReply
     ensures { λ r. ⌜ r ≡ prefixReply answer ⌝ }
 {
     match answer {
-        ListingAnswer::Done(said) => match said {
-            Listing::From { place, item } => prefix_gives(0, place, item, 0, 0),
-            Listing::BadHeader { place, text } => prefix_gives(2, 0, 0, place, text),
+        PrefixStartAnswer::Done(said) => match said {
+            PrefixStart::From { place, item } => prefix_gives(0, place, item, 0, 0),
+            PrefixStart::BadHeader { place, text } => prefix_gives(2, 0, 0, place, text),
         },
-        ListingAnswer::UnknownKind => prefix_gives(1, 0, 0, 0, 0),
-        ListingAnswer::TooLarge => prefix_gives(17, 0, 0, 0, 0),
+        PrefixStartAnswer::UnknownKind => prefix_gives(1, 0, 0, 0, 0),
+        PrefixStartAnswer::TooLarge => prefix_gives(17, 0, 0, 0, 0),
     }
 }
 

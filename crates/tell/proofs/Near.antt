@@ -20,12 +20,12 @@ abbrev pub Lies : ℕ → List ℕ → ℕ → Record → Type 0
 Lies n s place r = (place ≤ length s) × (recordOf paper n (drop place s) ≡ Good r)
 
 pub near : (n : ℕ) (s : List ℕ) (place : ℕ) (r : Record) → length s ≤ 1073741824 → Lies n s place r → Near place r
-near n s place r small x = (omega (arith, x .0), go (f .object))
+near n s place r small x = (omega (arith, x .0), go (f .peeled))
   where
     f : Fits paper n (drop place s) r
     f = fits paper n (drop place s) r (x .1)
 
-    go : (r .object ≡ 0) ⊎ ((suc n + r .name < r .object) × (r .object + n < r .size)) → r .object ≤ 1073741824
+    go : (r .peeled ≡ 0) ⊎ ((suc n + r .«name_len» < r .peeled) × (r .peeled + n < r .size)) → r .peeled ≤ 1073741824
     go (inl z) = omega arith
     go (inr z) = omega (arith, z .1, f .inside, length-drop place s)
 
@@ -35,4 +35,4 @@ under size h = le-ltb 1073741824 size h
 
 pub told-near : (kind place : ℕ) (r : Record) → Near place r → partsTold kind place r ≡ partsOf kind place r
 unfolding partsTold
-told-near kind place r h = rw (under place (h .0), under (r .object) (h .1))
+told-near kind place r h = rw (under place (h .0), under (r .peeled) (h .1))

@@ -26,23 +26,23 @@ nameAt kind place = place + idLen (digitsOf kind) + 1
 
 -- the peeled id stands at a place of the record that is not 0, if it has one
 unfoldable pub peeledAt : ℕ → ℕ → ℕ
-peeledAt place object = if (eqb object 0) 0 (place + object)
+peeledAt place peeled = if (eqb peeled 0) 0 (place + peeled)
 
 abbrev pub partsGive : ℕ → ℕ → ℕ → Parts
 partsGive name len peeled = record { «name_at» = name; «name_len» = len; «peeled_at» = peeled }
 
 -- the parts of a record that starts at a place
 abbrev pub partsOf : ℕ → ℕ → Record → Parts
-partsOf kind place r = partsGive (nameAt kind place) (r .name) (peeledAt place (r .object))
+partsOf kind place r = partsGive (nameAt kind place) (r .«name_len») (peeledAt place (r .peeled))
 
 -- what is told of them: beyond the size limit, nothing
 unfoldable pub partsTold : ℕ → ℕ → Record → Parts
-partsTold kind place r = if (overLimit place || overLimit (r .object)) (partsGive 0 0 0) (partsOf kind place r)
+partsTold kind place r = if (overLimit place || overLimit (r .peeled)) (partsGive 0 0 0) (partsOf kind place r)
 
 -- a record that starts at a place, and its peeled id, stand under the size limit, as they do in lent bytes: its parts are told as they are
 -- (`told-near`, proofs/Near.antt)
 abbrev pub Near : ℕ → Record → Type 0
-Near place r = (place ≤ 1073741824) × (r .object ≤ 1073741824)
+Near place r = (place ≤ 1073741824) × (r .peeled ≤ 1073741824)
 
 -- ---- a refusal
 

@@ -24,13 +24,13 @@ pub fn parts_at(kind: u32, place: usize, found: Record) -> Parts
     if parse::limit::over_limit(place) {
         return parts_give(0, 0, 0);
     }
-    if parse::limit::over_limit(found.object) {
+    if parse::limit::over_limit(found.peeled) {
         return parts_give(0, 0, 0);
     }
     parts_give(
         name_at(kind, place),
-        found.name,
-        peeled_at(place, found.object),
+        found.name_len,
+        peeled_at(place, found.peeled),
     )
 }
 
@@ -56,14 +56,14 @@ fn name_at(kind: u32, place: usize) -> usize
 }
 
 // Where the peeled id stands, or 0 where there is none.
-fn peeled_at(place: usize, object: usize) -> usize
-    requires { ⌜ (place ≤ 1073741824) × (object ≤ 1073741824) ⌝ }
-    ensures { λ r. ⌜ r ≡ peeledAt place object ⌝ }
+fn peeled_at(place: usize, peeled: usize) -> usize
+    requires { ⌜ (place ≤ 1073741824) × (peeled ≤ 1073741824) ⌝ }
+    ensures { λ r. ⌜ r ≡ peeledAt place peeled ⌝ }
 {
-    if object == 0 {
+    if peeled == 0 {
         return 0;
     }
-    place + object
+    place + peeled
 }
 
 // A refusal's number and what stands beside it: a place, or the length of a text; else 0.

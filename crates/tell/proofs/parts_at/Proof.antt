@@ -16,8 +16,8 @@ module _ (a : tie.After-name-at) where
   place-under : overLimit (start .args .place) ≡ false
   place-under = let e = a .before .before .before in sym (e .before .over-limit .ensures) ∙ e .if1 .left
 
-  object-under : overLimit (start .args .found .object) ≡ false
-  object-under = sym (a .before .before .over-limit2 .ensures) ∙ a .before .if2 .left
+  peeled-under : overLimit (start .args .found .peeled) ≡ false
+  peeled-under = sym (a .before .before .over-limit2 .ensures) ∙ a .before .if2 .left
 
 over-limit-requires : tie.Need-over-limit-requires
 over-limit-requires c κs = search needs
@@ -47,14 +47,14 @@ name-at-requires c κs = let e = c .before .before in ltb-false 1073741824 _ (sy
 
 peeled-at-requires : tie.Need-peeled-at-requires
 unfolding overLimit
-peeled-at-requires c κs = (ltb-false 1073741824 _ (place-under c), ltb-false 1073741824 _ (object-under c))
+peeled-at-requires c κs = (ltb-false 1073741824 _ (place-under c), ltb-false 1073741824 _ (peeled-under c))
 
 parts-give-requires-3 : tie.Need-parts-give-requires-3
 parts-give-requires-3 c κs = search needs
 
 returns-3 : tie.Need-returns-3
 unfolding partsTold
-returns-3 c = let a = c .before .before in rw (place-under a, object-under a, ← a .name-at .ensures, ← c .before .peeled-at .ensures) (c .parts-give3 .ensures)
+returns-3 c = let a = c .before .before in rw (place-under a, peeled-under a, ← a .name-at .ensures, ← c .before .peeled-at .ensures) (c .parts-give3 .ensures)
 
 pub parts-at-spec : {M : Type 1} → statement M
 parts-at-spec =
