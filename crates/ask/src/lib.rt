@@ -38,7 +38,7 @@ pub fn ask(kind: u32, file: &[u8], name: &[u8]) -> AskAnswer
     match parse::limit::admit(kind, file.len(), name.len()) {
         Admission::Digits(n) => {
             let t = class::table();
-            AskAnswer::Done(ask_by(&t, n, file, name))
+            AskAnswer::Done(ask_using(&t, n, file, name))
         }
         Admission::UnknownKind => AskAnswer::UnknownKind,
         Admission::TooLarge => AskAnswer::TooLarge,
@@ -46,10 +46,10 @@ pub fn ask(kind: u32, file: &[u8], name: &[u8]) -> AskAnswer
 }
 
 // The same by a table of byte classes and for ids of n digits.
-pub fn ask_by(t: &[u8; 256], n: usize, file: &[u8], name: &[u8]) -> Told
+pub fn ask_using(t: &[u8; 256], n: usize, file: &[u8], name: &[u8]) -> Told
     ensures { λ r. ⌜ r ≡ askOf (classesOf (now (t .entry))) n (now (file .entry)) (now (name .entry)) ⌝ }
 {
-    if !name::is_valid_by(t, name) {
+    if !name::is_valid_using(t, name) {
         return Told::BadName;
     }
     match header::open(t, file) {

@@ -41,7 +41,7 @@ module _ (s : Spot) where
   Read w = Reads (s .byte) (s .n) (s .file) (s .place) w
 
   abbrev nameHere : Record → List ℕ
-  nameHere r = take (r .name) (drop (s .n + 1) (drop (s .place) (s .file)))
+  nameHere r = take (r .«name_len») (drop (s .n + 1) (drop (s .place) (s .file)))
 
   -- ---- the turn by what is read
 

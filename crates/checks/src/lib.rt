@@ -36,7 +36,7 @@ pub fn check(kind: u32, file: &[u8]) -> CheckAnswer
     match parse::limit::admit(kind, file.len(), 0) {
         Admission::Digits(n) => {
             let t = class::table();
-            CheckAnswer::Done(check_by(&t, n, file))
+            CheckAnswer::Done(check_using(&t, n, file))
         }
         Admission::UnknownKind => CheckAnswer::UnknownKind,
         Admission::TooLarge => CheckAnswer::TooLarge,
@@ -44,7 +44,7 @@ pub fn check(kind: u32, file: &[u8]) -> CheckAnswer
 }
 
 // The same by a table of byte classes and for ids of n digits.
-pub fn check_by(t: &[u8; 256], n: usize, file: &[u8]) -> Verdict
+pub fn check_using(t: &[u8; 256], n: usize, file: &[u8]) -> Verdict
     ensures { λ r. ⌜ r ≡ checkOf (classesOf (now (t .entry))) n (now (file .entry)) ⌝ }
 {
     match header::open(t, file) {

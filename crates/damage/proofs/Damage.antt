@@ -131,30 +131,30 @@ module _ (n : ℕ) (pos : 0 < n) where
 
   module _
       (header kept run other : List ℕ)
-      (number : ℕ)
+      (item : ℕ)
     where
       abbrev out : List ℕ → List ℕ → List Given
-      out x rest = handed n (length header) number (items paper n (kept ++ (x ++ rest)))
+      out x rest = handed n (length header) item (items paper n (kept ++ (x ++ rest)))
 
       -- what ends before the run
       module _ (rest : List ℕ) (good : allGood (items paper n (kept ++ (run ++ rest))) ≡ true) where
         abbrev ahead : List Item
         ahead = endBefore (length kept) (items paper n (kept ++ (run ++ rest)))
 
-        ahead-is : endingBefore (length (header ++ kept)) (out run rest) ≡ handed n (length header) number ahead
-        ahead-is = rw (length-append header kept) (ending n (length kept) (length header) number (items paper n (kept ++ (run ++ rest))))
+        ahead-is : endingBefore (length (header ++ kept)) (out run rest) ≡ handed n (length header) item ahead
+        ahead-is = rw (length-append header kept) (ending n (length kept) (length header) item (items paper n (kept ++ (run ++ rest))))
 
         record Split : Type 0 where
           others : List Item
           place : ℕ
           counted : ℕ
-          is : out other rest ≡ handed n (length header) number ahead ++ handed n place counted others
+          is : out other rest ≡ handed n (length header) item ahead ++ handed n place counted others
 
         split : Split
         split =
             let (others, e) = front paper n (run ++ rest) (other ++ rest) kept good in
-            let j = joined n (length header) number ahead others in
-            record { others = others; place = j .place; counted = j .counted; is = ap (handed n (length header) number) e ∙ j .is }
+            let j = joined n (length header) item ahead others in
+            record { others = others; place = j .place; counted = j .counted; is = ap (handed n (length header) item) e ∙ j .is }
 
       -- what begins behind a line feed
       module _ (a c : List ℕ) (good : allGood (items paper n (kept ++ (run ++ (a ++ 10 ∷ c)))) ≡ true) where
@@ -164,8 +164,8 @@ module _ (n : ℕ) (pos : 0 < n) where
         abbrev behind-it : List ℕ → ℕ
         behind-it x = suc (length (header ++ (kept ++ (x ++ a))))
 
-        begins : (x : List ℕ) → Begun n (suc (length (kept ++ (x ++ a)))) (length header) number (items paper n (kept ++ (x ++ rest)))
-        begins x = begun n (suc (length (kept ++ (x ++ a)))) (length header) number (items paper n (kept ++ (x ++ rest)))
+        begins : (x : List ℕ) → Begun n (suc (length (kept ++ (x ++ a)))) (length header) item (items paper n (kept ++ (x ++ rest)))
+        begins x = begun n (suc (length (kept ++ (x ++ a)))) (length header) item (items paper n (kept ++ (x ++ rest)))
 
         begins-is : (x : List ℕ) → beginningFrom (behind-it x) (out x rest) ≡ handed n (begins x .place) (begins x .counted) (from kept run other a c good x)
         begins-is x =
@@ -223,14 +223,14 @@ module _ (n : ℕ) (pos : 0 < n) where
             × (out other rest ≡ endingBefore (length (header ++ kept)) (out run rest) ++ (between ++ beginningFrom (behind-it other) (out other rest)))
         in-order =
             let s = split rest good in
-            let first = handed n (length header) number (ahead rest good) in
+            let first = handed n (length header) item (ahead rest good) in
             let last = handed n (s .place) (s .counted) (s .others) in
             let (between, e) = cut-from n (behind-it other) (s .place) (s .counted) (s .others) in
             let short = end-bytes (length kept) (items paper n (kept ++ (run ++ rest))) in
             let b : beginningFrom (behind-it other) (out other rest) ≡ beginningFrom (behind-it other) last =
             ap (beginningFrom (behind-it other)) (s .is) ∙ beginning-append n (behind-it other) first last
             ∙ ap (λ (l : List Given). l ++ beginningFrom (behind-it other) last)
-            (none-from n (behind-it other) (length header) number (ahead rest good)
+            (none-from n (behind-it other) (length header) item (ahead rest good)
             (omega (arith, length-append header (kept ++ (other ++ a)), length-append kept (other ++ a)))) in
             (between, s .is ∙ rw (ahead-is rest good, b) (ap (λ (l : List Given). first ++ l) e))
 

@@ -57,7 +57,7 @@ beginningFrom place (g ∷ l) = if (leb place (g .place)) (g ∷ beginningFrom p
 abbrev pub recordBy : Handed → List Handed → List Handed
 recordBy (good id name) l = good id name ∷ l
 recordBy (peeled id name peeledId) l = peeled id name peeledId ∷ l
-recordBy (error number text) l = l
+recordBy (error item text) l = l
 
 abbrev pub recordsIn : List Given → List Handed
 recordsIn [] = []
@@ -97,14 +97,14 @@ module _ (n : ℕ) (header kept : List ℕ) (run other a c : List ℕ) where
     pub between : List Given
     pub in-order : after ≡ endingBefore (length (header ++ kept)) before ++ (between ++ beginningFrom placeAfter after)
     -- "and no error after that line feed concerns a line of those records"
-    pub errors : Each (λ g. (number : ℕ) (text : List ℕ) → g .what ≡ error number text
+    pub errors : Each (λ g. (item : ℕ) (text : List ℕ) → g .what ≡ error item text
         → Aside g placeAfter placeBefore (lineLen c) (beginningFrom placeBefore before)) (beginningFrom placeAfter after)
 
 pub record Kept (kind n : ℕ) (header kept run other rest : List ℕ) : Type 0 where
   -- "Read from the start": each call answers what the reading is made of
   pub starts : startAnswer kind (whole header kept other rest) ≡ started.Done (startOf paper (whole header kept other rest))
-  pub steps : (place number : ℕ)
-      → stepAnswer kind [] (whole header kept other rest) place number ≡ stepped.Done (stepOf paper n [] (whole header kept other rest) place number)
+  pub steps : (place item : ℕ)
+      → stepAnswer kind [] (whole header kept other rest) place item ≡ stepped.Done (stepOf paper n [] (whole header kept other rest) place item)
   -- at the same place and with the same number as before
   pub start : startOf paper (whole header kept other rest) ≡ startOf paper (whole header kept run rest)
   -- to the end

@@ -85,13 +85,13 @@ module _ (byte : Classes) (n : ℕ) where
       go : View byte n (u ++ r) → recordOf byte n (u ++ r′) ≡ Good found
       go (is-bad f w e) = cc
       go (plain h c e) =
-          let w : found ≡ record { name = nameLen byte n (u ++ r); object = 0; size = headLen byte n (u ++ r) } = cc in
+          let w : found ≡ record { «name_len» = nameLen byte n (u ++ r); peeled = 0; size = headLen byte n (u ++ r) } = cc in
           let q : headLen byte n (u ++ r) ≡ found .size = sym (ap (λ (x : Record). x .size) w) in
           let (h′, nm, hl) = head-local u r r′ h (omega arith) in
           let at : getD (u ++ r′) (headLen byte n (u ++ r′)) 0 ≡ getD (u ++ r) (headLen byte n (u ++ r)) 0 = rw hl (same-at u r r′ (headLen byte n (u ++ r)) (omega arith)) in
           plain-is byte n (u ++ r′) h′ (λ z. c (sym at ∙ z)) ∙ rw (nm, hl, w)
       go (peeled h c p e) =
-          let w : found ≡ record { name = nameLen byte n (u ++ r); object = suc (headLen byte n (u ++ r)); size = headLen byte n (u ++ r) + peelLen byte n (drop (headLen byte n (u ++ r)) (u ++ r)) } = cc in
+          let w : found ≡ record { «name_len» = nameLen byte n (u ++ r); peeled = suc (headLen byte n (u ++ r)); size = headLen byte n (u ++ r) + peelLen byte n (drop (headLen byte n (u ++ r)) (u ++ r)) } = cc in
           let q : headLen byte n (u ++ r) + peelLen byte n (drop (headLen byte n (u ++ r)) (u ++ r)) ≡ found .size = sym (ap (λ (x : Record). x .size) w) in
           let (h′, nm, hl) = head-local u r r′ h (omega arith) in
           let j = headLen byte n (u ++ r) in

@@ -36,21 +36,21 @@ module _ (byte : Classes) (n : ℕ) (s : List ℕ) where
         no-name h = rw (id, space, text, h)
 
         module _ (name : validName byte (take (end - from) (drop from s)) ≡ true) where
-          pub plain-record : byteAt 94 s next ≡ Unread → recordOf byte n s ≡ Good (record { name = end - from; object = 0; size = next })
+          pub plain-record : byteAt 94 s next ≡ Unread → recordOf byte n s ≡ Good (record { «name_len» = end - from; peeled = 0; size = next })
           unfolding recordOf
           plain-record h = rw (id, space, text, name, h)
 
-          module _ {object : ℕ} (caret : byteAt 94 s next ≡ At object) where
-            pub no-peeled-id : idAt byte n s object ≡ Unread → recordOf byte n s ≡ Bad Peeled
+          module _ {peeled : ℕ} (caret : byteAt 94 s next ≡ At peeled) where
+            pub no-peeled-id : idAt byte n s peeled ≡ Unread → recordOf byte n s ≡ Bad Peeled
             unfolding recordOf
             no-peeled-id h = rw (id, space, text, name, caret, h)
 
-            module _ {objectEnd : ℕ} (peeled : idAt byte n s object ≡ At objectEnd) where
-              pub no-peeled-end : newlineAt s objectEnd ≡ Unread → recordOf byte n s ≡ Bad Peeled
+            module _ {peeledEnd : ℕ} (peeled-id : idAt byte n s peeled ≡ At peeledEnd) where
+              pub no-peeled-end : newlineAt s peeledEnd ≡ Unread → recordOf byte n s ≡ Bad Peeled
               unfolding recordOf
-              no-peeled-end h = rw (id, space, text, name, caret, peeled, h)
+              no-peeled-end h = rw (id, space, text, name, caret, peeled-id, h)
 
-              pub peeled-record : {size : ℕ} → newlineAt s objectEnd ≡ At size
-                  → recordOf byte n s ≡ Good (record { name = end - from; object = object; size = size })
+              pub peeled-record : {size : ℕ} → newlineAt s peeledEnd ≡ At size
+                  → recordOf byte n s ≡ Good (record { «name_len» = end - from; peeled = peeled; size = size })
               unfolding recordOf
-              peeled-record h = rw (id, space, text, name, caret, peeled, h)
+              peeled-record h = rw (id, space, text, name, caret, peeled-id, h)

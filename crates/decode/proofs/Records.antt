@@ -28,8 +28,8 @@ use Rattle.decode.specs.Record.{recordOf}
 use Rattle.decode.proofs.Parts as parts
 
 pub good-alike : {a a′ o o′ z z′ : ℕ} → a ≡ a′ → o ≡ o′ → z ≡ z′
-    → _≡_ {A = Reading} (Good (record { name = a; object = o; size = z })) (Good (record { name = a′; object = o′; size = z′ }))
-good-alike p q r = λ i. Good (record { name = p i; object = q i; size = r i })
+    → _≡_ {A = Reading} (Good (record { «name_len» = a; peeled = o; size = z })) (Good (record { «name_len» = a′; peeled = o′; size = z′ }))
+good-alike p q r = λ i. Good (record { «name_len» = p i; peeled = q i; size = r i })
 
 module _ (byte : Classes) (n : ℕ) where
   -- ---- the two lines of a record. A length says how far the line goes where it can be read
@@ -60,9 +60,9 @@ module _ (byte : Classes) (n : ℕ) where
 
   pub data View (s : List ℕ) : Type 0 where
     is-bad : (f : Fault) → (Head s → (getD s (headLen s) 0 ≡ 94 → Peel (drop (headLen s) s)) → ⊥) → recordOf byte n s ≡ Bad f → View s
-    plain : Head s → (getD s (headLen s) 0 ≡ 94 → ⊥) → recordOf byte n s ≡ Good (record { name = nameLen s; object = 0; size = headLen s }) → View s
+    plain : Head s → (getD s (headLen s) 0 ≡ 94 → ⊥) → recordOf byte n s ≡ Good (record { «name_len» = nameLen s; peeled = 0; size = headLen s }) → View s
     peeled : Head s → getD s (headLen s) 0 ≡ 94 → Peel (drop (headLen s) s)
-        → recordOf byte n s ≡ Good (record { name = nameLen s; object = suc (headLen s); size = headLen s + peelLen (drop (headLen s) s) }) → View s
+        → recordOf byte n s ≡ Good (record { «name_len» = nameLen s; peeled = suc (headLen s); size = headLen s + peelLen (drop (headLen s) s) }) → View s
 
   -- the places that the reading goes through, by the two lines' lengths
   module _ (s : List ℕ) where
@@ -183,8 +183,8 @@ module _ (byte : Classes) (n : ℕ) where
   -- a good record fits
   pub record Fits (s : List ℕ) (r : Record) : Type 0 where
     pub inside : r .size ≤ length s
-    pub holds : suc n + r .name < r .size
-    pub object : (r .object ≡ 0) ⊎ ((suc n + r .name < r .object) × (r .object + n < r .size))
+    pub holds : suc n + r .«name_len» < r .size
+    pub peeled : (r .peeled ≡ 0) ⊎ ((suc n + r .«name_len» < r .peeled) × (r .peeled + n < r .size))
 
   pub fits : (s : List ℕ) (r : Record) → recordOf byte n s ≡ Good r → Fits s r
   fits s r e = go (view s)
@@ -192,32 +192,32 @@ module _ (byte : Classes) (n : ℕ) where
       go : View s → Fits s r
       go (is-bad f x q) = absurd (let z : _≡_ {A = ℕ} 0 1 = cc in omega arith)
       go (plain h c q) =
-          let w : r ≡ record { name = nameLen s; object = 0; size = headLen s } = cc in
+          let w : r ≡ record { «name_len» = nameLen s; peeled = 0; size = headLen s } = cc in
           let z = head-fits s h in
-          rw w (record { inside = z .0; holds = z .1; object = inl refl })
+          rw w (record { inside = z .0; holds = z .1; peeled = inl refl })
       go (peeled h c p q) =
-          let w : r ≡ record { name = nameLen s; object = suc (headLen s); size = headLen s + peelLen (drop (headLen s) s) } = cc in
+          let w : r ≡ record { «name_len» = nameLen s; peeled = suc (headLen s); size = headLen s + peelLen (drop (headLen s) s) } = cc in
           let z = head-fits s h in
           let y = peel-fits (drop (headLen s) s) p in
           let l = length-drop (headLen s) s in
-          rw w (record { inside = omega (arith, z .0, y .0); holds = omega (arith, z .1); object = inr (omega (arith, z .1), omega (arith, y .1)) })
+          rw w (record { inside = omega (arith, z .0, y .0); holds = omega (arith, z .1); peeled = inr (omega (arith, z .1), omega (arith, y .1)) })
 
   -- ---- locality: a good record is determined by its bytes and the byte behind them
 
-  pub plain-is : (s : List ℕ) → Head s → (getD s (headLen s) 0 ≡ 94 → ⊥) → recordOf byte n s ≡ Good (record { name = nameLen s; object = 0; size = headLen s })
+  pub plain-is : (s : List ℕ) → Head s → (getD s (headLen s) 0 ≡ 94 → ⊥) → recordOf byte n s ≡ Good (record { «name_len» = nameLen s; peeled = 0; size = headLen s })
   plain-is s h c = go (view s)
     where
-      go : View s → recordOf byte n s ≡ Good (record { name = nameLen s; object = 0; size = headLen s })
+      go : View s → recordOf byte n s ≡ Good (record { «name_len» = nameLen s; peeled = 0; size = headLen s })
       go (is-bad f whole e) = absurd (whole h (λ z. absurd (c z)))
       go (plain k d e) = e
       go (peeled k d p e) = absurd (c d)
 
   pub peeled-is : (s : List ℕ) → Head s → getD s (headLen s) 0 ≡ 94 → Peel (drop (headLen s) s)
-      → recordOf byte n s ≡ Good (record { name = nameLen s; object = suc (headLen s); size = headLen s + peelLen (drop (headLen s) s) })
+      → recordOf byte n s ≡ Good (record { «name_len» = nameLen s; peeled = suc (headLen s); size = headLen s + peelLen (drop (headLen s) s) })
   peeled-is s h c p = go (view s)
     where
       go : View s
-          → recordOf byte n s ≡ Good (record { name = nameLen s; object = suc (headLen s); size = headLen s + peelLen (drop (headLen s) s) })
+          → recordOf byte n s ≡ Good (record { «name_len» = nameLen s; peeled = suc (headLen s); size = headLen s + peelLen (drop (headLen s) s) })
       go (is-bad f whole e) = absurd (whole h (λ z. p))
       go (plain k d e) = absurd (d c)
       go (peeled k d q e) = e

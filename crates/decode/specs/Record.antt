@@ -26,14 +26,14 @@ recordOf byte n s =
     (λ end next.
     if (validName byte (take (end - from) (drop from s)))
     (then (byteAt 94 s next)
-    (λ object.
-    then (idAt byte n s object)
-    (λ objectEnd.
-    then (newlineAt s objectEnd)
-    (λ size. Good (record { name = end - from; object = object; size = size }))
+    (λ peeled.
+    then (idAt byte n s peeled)
+    (λ peeledEnd.
+    then (newlineAt s peeledEnd)
+    (λ size. Good (record { «name_len» = end - from; peeled = peeled; size = size }))
     (Bad Peeled))
     (Bad Peeled))
-    (Good (record { name = end - from; object = 0; size = next })))
+    (Good (record { «name_len» = end - from; peeled = 0; size = next })))
     (Bad Name))
     (Bad LineEnd))
     (Bad Space))

@@ -19,9 +19,9 @@ pub enum Fault {
 // A good record, by places counted from its start: the id stands at 0, the name behind the id and one space.
 pub struct Record {
     // The name's length.
-    pub name: usize,
+    pub name_len: usize,
     // Where the peeled id stands, or 0 where there is none.
-    pub object: usize,
+    pub peeled: usize,
     // The bytes that the record takes, line ends included.
     pub size: usize,
 }
@@ -44,31 +44,35 @@ pub fn reference(t: &[u8; 256], s: &[u8], n: usize) -> Reading
     let Text::Ended { end, next } = parse::line::until_line_end(t, s, from) else {
         return Reading::Bad(Fault::LineEnd);
     };
-    if !name::is_valid_by(t, parse::part::between(s, from, end)) {
+    if !name::is_valid_using(t, parse::part::between(s, from, end)) {
         return Reading::Bad(Fault::Name);
     }
-    let name = end - from;
-    let Past::At(object) = parse::part::past_byte(s, next, b'^') else {
+    let name_len = end - from;
+    let Past::At(peeled) = parse::part::past_byte(s, next, b'^') else {
         return Reading::Good(Record {
-            name,
-            object: 0,
+            name_len,
+            peeled: 0,
             size: next,
         });
     };
-    let Past::At(object_end) = id::hex_hash(t, s, object, n) else {
+    let Past::At(peeled_end) = id::hex_hash(t, s, peeled, n) else {
         return Reading::Bad(Fault::Peeled);
     };
-    let Past::At(size) = parse::line::newline(s, object_end) else {
+    let Past::At(size) = parse::line::newline(s, peeled_end) else {
         return Reading::Bad(Fault::Peeled);
     };
-    Reading::Good(Record { name, object, size })
+    Reading::Good(Record {
+        name_len,
+        peeled,
+        size,
+    })
 }
 
 // The name of a record at the front of the bytes, as that part of them: behind n digits and one byte.
 pub fn name_of(s: &[u8], n: usize, found: Record) -> &[u8]
-    ensures { λ r. ⌜ now r ≡ take (found .name) (drop (n + 1) (now (s .entry))) ⌝ }
+    ensures { λ r. ⌜ now r ≡ take (found .«name_len») (drop (n + 1) (now (s .entry))) ⌝ }
 {
-    let name = found.name;
+    let name = found.name_len;
     if s.len() <= n {
         return &s[0..0];
     }

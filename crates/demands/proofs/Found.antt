@@ -32,10 +32,10 @@ use Rattle.checks.proofs.Asked.{passed, opened-as, some-digits}
 use Rattle.find.specs.declared.lookup.Lookup.{Lookup}
 use Rattle.find.specs.declared.lookup.Lookup.the-variants.{Charted, BadRecord, Unsure, Absent, BadName}
 use Rattle.find.specs.declared.lookup.LookupAnswer.the-variants as looked
-use Rattle.find.specs.declared.listing.Listing.the-variants.{From}
-use Rattle.find.specs.declared.listing.ListingAnswer.the-variants as listed
+use Rattle.find.specs.declared.prefix_start.PrefixStart.the-variants.{From}
+use Rattle.find.specs.declared.prefix_start.PrefixStartAnswer.the-variants as listed
 use Rattle.find.specs.Lookup.{lookupOf, lookupAnswer, lookupNumber}
-use Rattle.find.specs.Listing.{listingOf, listingAnswer}
+use Rattle.find.specs.PrefixStart.{prefixStartOf, prefixStartAnswer}
 use Rattle.find.specs.Present.{FoundExactly, ListsExactly, withPrefix}
 use Rattle.find.proofs.InFile.{body-passes, found-in-file, lists-in-file}
 use Rattle.demands.specs.Found.{Checked, bodyOf, In, Has, found, FoundIfThere, wanted, ListedIfWanted, Demand2}
@@ -107,7 +107,7 @@ module _ (kind n : ℕ) (d : digitsOf kind ≡ kinds.Digits n) (file : List ℕ)
     lists = lists-in-file n (some-digits kind n d) file prefix .behind (c .count) (c .header) clean opens
 
     listed-if-wanted : ListedIfWanted kind n file c prefix
-    unfolding listingAnswer stepAnswer
+    unfolding prefixStartAnswer stepAnswer
     listed-if-wanted =
         let admitted = admits kind (length (bodyOf c)) (length prefix) d small short in
         let l = withPrefix n prefix (items paper n (bodyOf c)) in
@@ -128,5 +128,5 @@ pub demand-2 : Demand2
 demand-2 =
     record {
       lookup = λ kind n d file c name valid short. found-if-there kind n d file c name valid short;
-      listing = λ kind n d file c prefix short. listed-if-wanted kind n d file c prefix short;
+      prefixed = λ kind n d file c prefix short. listed-if-wanted kind n d file c prefix short;
     }

@@ -33,37 +33,37 @@ module _ (n : ℕ) where
     pub before : List Item
     pub it : Item
     pub after : List Item
-    pub number : ℕ
+    pub item : ℕ
     pub all : l ≡ before ++ it ∷ after
-    pub is : g ≡ handedAt n (at + length (bytesOf before)) number it
+    pub is : g ≡ handedAt n (at + length (bytesOf before)) item it
 
-  pub from-item : (l : List Item) (at number : ℕ) (before : List Given) (g : Given) (after : List Given) → handed n at number l ≡ before ++ g ∷ after → FromItem at l g
-  from-item [] at number [] g after e = absurd (let z : _≡_ {A = ℕ} 0 1 = cc in omega arith)
-  from-item [] at number (b ∷ before) g after e = absurd (let z : _≡_ {A = ℕ} 0 1 = cc in omega arith)
-  from-item (i ∷ l) at number [] g after e =
-      let z : g ≡ handedAt n at number i = cc in
-      record { before = []; it = i; after = l; number = number; all = refl; is = rw (add-zero at) z }
-  from-item (i ∷ l) at number (b ∷ before) g after e =
-      let rest : handed n (at + length (i .bytes)) (more number) l ≡ before ++ g ∷ after = cc in
-      let x = from-item l (at + length (i .bytes)) (more number) before g after rest in
+  pub from-item : (l : List Item) (at item : ℕ) (before : List Given) (g : Given) (after : List Given) → handed n at item l ≡ before ++ g ∷ after → FromItem at l g
+  from-item [] at item [] g after e = absurd (let z : _≡_ {A = ℕ} 0 1 = cc in omega arith)
+  from-item [] at item (b ∷ before) g after e = absurd (let z : _≡_ {A = ℕ} 0 1 = cc in omega arith)
+  from-item (i ∷ l) at item [] g after e =
+      let z : g ≡ handedAt n at item i = cc in
+      record { before = []; it = i; after = l; item = item; all = refl; is = rw (add-zero at) z }
+  from-item (i ∷ l) at item (b ∷ before) g after e =
+      let rest : handed n (at + length (i .bytes)) (more item) l ≡ before ++ g ∷ after = cc in
+      let x = from-item l (at + length (i .bytes)) (more item) before g after rest in
       let z : at + length (i .bytes) + length (bytesOf (x .before)) ≡ at + length (i .bytes ++ bytesOf (x .before)) = omega (arith, length-append (i .bytes) (bytesOf (x .before))) in
       record {
         before = i ∷ x .before;
         it = x .it;
         after = x .after;
-        number = x .number;
+        item = x .item;
         all = ap (λ (m : List Item). i ∷ m) (x .all);
         is = rw z at (x .is);
       }
 
-  pub to-given : (before : List Item) (it : Item) (after : List Item) (at number : ℕ)
-      → (k : ℕ) × In (handedAt n (at + length (bytesOf before)) k it) (handed n at number (before ++ it ∷ after))
-  to-given [] it after at number = (number, record { before = []; after = handed n (at + length (it .bytes)) (more number) after; all = rw (add-zero at) })
-  to-given (i ∷ before) it after at number =
-      let (k, x) = to-given before it after (at + length (i .bytes)) (more number) in
+  pub to-given : (before : List Item) (it : Item) (after : List Item) (at item : ℕ)
+      → (k : ℕ) × In (handedAt n (at + length (bytesOf before)) k it) (handed n at item (before ++ it ∷ after))
+  to-given [] it after at item = (item, record { before = []; after = handed n (at + length (it .bytes)) (more item) after; all = rw (add-zero at) })
+  to-given (i ∷ before) it after at item =
+      let (k, x) = to-given before it after (at + length (i .bytes)) (more item) in
       let z : at + length (i .bytes) + length (bytesOf before) ≡ at + length (i .bytes ++ bytesOf before) = omega (arith, length-append (i .bytes) (bytesOf before)) in
-      let y : In (handedAt n (at + length (i .bytes) + length (bytesOf before)) k it) (handed n at number (i ∷ (before ++ it ∷ after))) =
-      record { before = handedAt n at number i ∷ x .before; after = x .after; all = ap (λ (l : List Given). handedAt n at number i ∷ l) (x .all) } in
+      let y : In (handedAt n (at + length (i .bytes) + length (bytesOf before)) k it) (handed n at item (i ∷ (before ++ it ∷ after))) =
+      record { before = handedAt n at item i ∷ x .before; after = x .after; all = ap (λ (l : List Given). handedAt n at item i ∷ l) (x .all) } in
       (k, rw z at y)
 
   -- ---- a record that stands in a body is handed out by its places
@@ -80,16 +80,16 @@ module _ (n : ℕ) where
 
     -- its name
     has-name : (wanted : List ℕ) (bytes : List ℕ) (r : Record) → Has wanted (partsOf n bytes r) → nameOf n (record { what = Good r; bytes = bytes }) ≡ wanted
-    has-name wanted bytes r h = go (r .object) h
+    has-name wanted bytes r h = go (r .peeled) h
       where
-        go : (o : ℕ) → Has wanted (partsBy n bytes (take (r .name) (drop (n + 1) bytes)) o) → take (r .name) (drop (n + 1) bytes) ≡ wanted
+        go : (o : ℕ) → Has wanted (partsBy n bytes (take (r .«name_len») (drop (n + 1) bytes)) o) → take (r .«name_len») (drop (n + 1) bytes) ≡ wanted
         go zero h = h
         go (suc o) h = h
 
     name-has : (wanted : List ℕ) (bytes : List ℕ) (r : Record) → nameOf n (record { what = Good r; bytes = bytes }) ≡ wanted → Has wanted (partsOf n bytes r)
-    name-has wanted bytes r h = go (r .object)
+    name-has wanted bytes r h = go (r .peeled)
       where
-        go : (o : ℕ) → Has wanted (partsBy n bytes (take (r .name) (drop (n + 1) bytes)) o)
+        go : (o : ℕ) → Has wanted (partsBy n bytes (take (r .«name_len») (drop (n + 1) bytes)) o)
         go zero = h
         go (suc o) = h
 
@@ -103,16 +103,16 @@ module _ (n : ℕ) where
       pub named : Named n s wanted place r
       pub is : told at place r ≡ g
 
-    pub stood : (at number : ℕ) (wanted : List ℕ) (g : Given) → In g (handed n at number (items paper n s)) → Has wanted (g .what) → Stood at wanted g
-    stood at number wanted g x h =
-        let y = from-item (items paper n s) at number (x .before) g (x .after) (x .all) in
+    pub stood : (at item : ℕ) (wanted : List ℕ) (g : Given) → In g (handed n at item (items paper n s)) → Has wanted (g .what) → Stood at wanted g
+    stood at item wanted g x h =
+        let y = from-item (items paper n s) at item (x .before) g (x .after) (x .all) in
         let place = length (bytesOf (y .before)) in
         let stands : Stands paper n s place (y .it) = record { before = y .before; after = y .after; all = y .all; here = refl } in
-        let k : Has wanted (handedBy n (y .number) (y .it .bytes) (y .it .what)) = rw (y .is) at h in
+        let k : Has wanted (handedBy n (y .item) (y .it .bytes) (y .it .what)) = rw (y .is) at h in
         go (y .it .what) y refl stands k
       where
         go : (w : Reading) (y : FromItem at (items paper n s) g) → y .it .what ≡ w → Stands paper n s (length (bytesOf (y .before))) (y .it)
-            → Has wanted (handedBy n (y .number) (y .it .bytes) w) → Stood at wanted g
+            → Has wanted (handedBy n (y .item) (y .it .bytes) w) → Stood at wanted g
         go (Bad f) y e stands k = absurd k
         go (Good r) y e stands k =
             let (long, parts) = stands-as stands e in
@@ -123,27 +123,27 @@ module _ (n : ℕ) where
               is = rw (y .is, e, long, parts);
             }
 
-    pub stands-in : (at number : ℕ) (wanted : List ℕ) (place : ℕ) (r : Record) → Named n s wanted place r
-        → In (told at place r) (handed n at number (items paper n s)) × Has wanted (told at place r .what)
-    stands-in at number wanted place r x =
+    pub stands-in : (at item : ℕ) (wanted : List ℕ) (place : ℕ) (r : Record) → Named n s wanted place r
+        → In (told at place r) (handed n at item (items paper n s)) × Has wanted (told at place r .what)
+    stands-in at item wanted place r x =
         let st = x .stands in
         let (long, parts) = stands-as st (x .good) in
-        let (k, inside) = to-given (st .before) (x .it) (st .after) at number in
+        let (k, inside) = to-given (st .before) (x .it) (st .after) at item in
         let e : handedAt n (at + length (bytesOf (st .before))) k (x .it) ≡ told at place r = rw (st .here, x .good, long, parts) in
         (rw e at (rw (sym (st .all)) at inside), rw parts at (name-has wanted (x .it .bytes) r (rw (x .good) at (x .name-is))))
 
   -- ---- among records, those with a prefix
 
-  pub wanted-is : (prefix : List ℕ) (l : List Item) (at number at′ number′ : ℕ) → allGood l ≡ true
-      → whats (handed n at number (withPrefix n prefix l)) ≡ wanted prefix (whats (handed n at′ number′ l))
-  wanted-is prefix [] at number at′ number′ g = refl
-  wanted-is prefix (i ∷ l) at number at′ number′ g =
+  pub wanted-is : (prefix : List ℕ) (l : List Item) (at item at′ item′ : ℕ) → allGood l ≡ true
+      → whats (handed n at item (withPrefix n prefix l)) ≡ wanted prefix (whats (handed n at′ item′ l))
+  wanted-is prefix [] at item at′ item′ g = refl
+  wanted-is prefix (i ∷ l) at item at′ item′ g =
       let both = and-eq-true-iff (isGood (i .what)) (allGood l) .0 g in
       go (i .what) refl (both .0) (begins prefix (nameOf n i)) refl
-      (λ p k. wanted-is prefix l p k (at′ + length (i .bytes)) (more number′) (both .1))
+      (λ p k. wanted-is prefix l p k (at′ + length (i .bytes)) (more item′) (both .1))
     where
       others : List Handed
-      others = wanted prefix (whats (handed n (at′ + length (i .bytes)) (more number′) l))
+      others = wanted prefix (whats (handed n (at′ + length (i .bytes)) (more item′) l))
 
       parts : (bytes name : List ℕ) (o : ℕ) (b : Bool) → begins prefix name ≡ b
           → wantedBy prefix (partsBy n bytes name o) others ≡ if b (partsBy n bytes name o ∷ others) others
@@ -152,11 +152,11 @@ module _ (n : ℕ) where
 
       go : (w : Reading) → i .what ≡ w → isGood w ≡ true → (b : Bool) → begins prefix (nameOf n i) ≡ b
           → ((p k : ℕ) → whats (handed n p k (withPrefix n prefix l)) ≡ others)
-          → whats (handed n at number (if b (i ∷ withPrefix n prefix l) (withPrefix n prefix l)))
-          ≡ wantedBy prefix (handedBy n number′ (i .bytes) (i .what)) others
+          → whats (handed n at item (if b (i ∷ withPrefix n prefix l) (withPrefix n prefix l)))
+          ≡ wantedBy prefix (handedBy n item′ (i .bytes) (i .what)) others
       go (Bad f) e h b q ih = absurd (let z : _≡_ {A = ℕ} 0 1 = cc in omega arith)
       go (Good r) e h true q ih =
           rw e
-          (ap (λ (m : List Handed). partsOf n (i .bytes) r ∷ m) (ih (at + length (i .bytes)) (more number))
-          ∙ sym (parts (i .bytes) (take (r .name) (drop (n + 1) (i .bytes))) (r .object) true (rw e at q)))
-      go (Good r) e h false q ih = rw e (ih at number ∙ sym (parts (i .bytes) (take (r .name) (drop (n + 1) (i .bytes))) (r .object) false (rw e at q)))
+          (ap (λ (m : List Handed). partsOf n (i .bytes) r ∷ m) (ih (at + length (i .bytes)) (more item))
+          ∙ sym (parts (i .bytes) (take (r .«name_len») (drop (n + 1) (i .bytes))) (r .peeled) true (rw e at q)))
+      go (Good r) e h false q ih = rw e (ih at item ∙ sym (parts (i .bytes) (take (r .«name_len») (drop (n + 1) (i .bytes))) (r .peeled) false (rw e at q)))

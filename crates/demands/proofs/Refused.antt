@@ -39,30 +39,30 @@ use Rattle.ask.specs.Ask.{askAnswer, askNumber}
 use Rattle.find.specs.declared.lookup.Lookup.the-variants as lookup
 use Rattle.find.specs.declared.lookup.LookupAnswer.{LookupAnswer}
 use Rattle.find.specs.declared.lookup.LookupAnswer.the-variants as looked
-use Rattle.find.specs.declared.listing.Listing.the-variants as listing
-use Rattle.find.specs.declared.listing.ListingAnswer.{ListingAnswer}
-use Rattle.find.specs.declared.listing.ListingAnswer.the-variants as listed
+use Rattle.find.specs.declared.prefix_start.PrefixStart.the-variants as prefixed
+use Rattle.find.specs.declared.prefix_start.PrefixStartAnswer.{PrefixStartAnswer}
+use Rattle.find.specs.declared.prefix_start.PrefixStartAnswer.the-variants as listed
 use Rattle.find.specs.Lookup.{lookupAnswer, lookupNumber}
-use Rattle.find.specs.Listing.{listingAnswer, listingNumber}
+use Rattle.find.specs.PrefixStart.{prefixStartAnswer, prefixStartNumber}
 use Rattle.loose.specs.declared.Loose.the-variants as loose
 use Rattle.loose.specs.declared.LooseAnswer.{LooseAnswer}
 use Rattle.loose.specs.declared.LooseAnswer.the-variants as loosely
 use Rattle.loose.specs.Loose.{looseAnswer, looseNumber}
-use Rattle.change.specs.declared.Fault.the-variants as edit
+use Rattle.edit.specs.declared.EditFault.the-variants as edit
 use Rattle.places.specs.declared.name.Layout.the-variants as layout
-use Rattle.places.specs.Name.{nameOf}
+use Rattle.places.specs.Name.{standingName}
 use Rattle.sort.specs.declared.twin.Twin.{Twin}
 use Rattle.sort.specs.declared.twin.Twin.the-variants as twin
 use Rattle.sort.specs.Twin.{firstTwin}
-use Rattle.edit.specs.declared.list.ListFault.{ListFault}
-use Rattle.edit.specs.declared.list.ListFault.the-variants as fault
-use Rattle.edit.specs.declared.list.Prepared.{Prepared}
-use Rattle.edit.specs.declared.list.Prepared.the-variants as prepared
-use Rattle.edit.specs.List.{Listed, all, bad, editsOf, inOrder, twinsBy, twinsOf, preparedBy, preparedOf, indexBy, indexAfter, listFaultNumber}
+use Rattle.edits.specs.declared.list.ListFault.{ListFault}
+use Rattle.edits.specs.declared.list.ListFault.the-variants as fault
+use Rattle.edits.specs.declared.list.Prepared.{Prepared}
+use Rattle.edits.specs.declared.list.Prepared.the-variants as prepared
+use Rattle.edits.specs.List.{Listed, all, bad, editsOf, inOrder, twinsBy, twinsOf, preparedBy, preparedOf, indexBy, indexAfter, listFaultNumber}
 use Rattle.merge.specs.declared.Merged.{Merged}
 use Rattle.merge.specs.declared.Merged.the-variants.{Done, UnknownKind, TooLarge, BadList, ShortIndex, Twins, Refused, NothingToDo, NoRecord, ShortOutput}
 use Rattle.lines.specs.Lines.{Entry}
-use Rattle.merge.specs.Entry.{Edit}
+use Rattle.merge.specs.Entry.{Override}
 use Rattle.merge.specs.Merge as merged
 use Rattle.merge.specs.Merge.{overridden, isNone, isIdle, newFile, oldEntries, editsInOrder, finished, judgedBy, judged, mergeOf, mergeAnswer, mergeNumber, outputBy, outputAfter, indexAnswer}
 use Rattle.demands.specs.Refused.{AnsweredBy, Numbered, beforeEleven, Filled, Leaves, Demand1}
@@ -109,11 +109,11 @@ lookup-number (looked.Done lookup.BadName) = refl
 lookup-number looked.UnknownKind = refl
 lookup-number looked.TooLarge = refl
 
-listing-number : (a : ListingAnswer) → AnsweredBy (listingNumber a) (0 ∷ 1 ∷ 17 ∷ 2 ∷ [])
-listing-number (listed.Done (listing.From place item)) = refl
-listing-number (listed.Done (listing.BadHeader place text)) = refl
-listing-number listed.UnknownKind = refl
-listing-number listed.TooLarge = refl
+prefix-start-number : (a : PrefixStartAnswer) → AnsweredBy (prefixStartNumber a) (0 ∷ 1 ∷ 17 ∷ 2 ∷ [])
+prefix-start-number (listed.Done (prefixed.From place item)) = refl
+prefix-start-number (listed.Done (prefixed.BadHeader place text)) = refl
+prefix-start-number listed.UnknownKind = refl
+prefix-start-number listed.TooLarge = refl
 
 ask-number : (a : AskAnswer) → AnsweredBy (askNumber a) (0 ∷ 1 ∷ 17 ∷ 3 ∷ 2 ∷ 4 ∷ 6 ∷ 5 ∷ [])
 ask-number (asked.Done (told.Charted place r)) = refl
@@ -170,7 +170,7 @@ refusal-late (refusal.BadHeader k) = refl
 refusal-late (refusal.BadRecord place f) = rw (four f)
 refusal-late (refusal.Unsorted place) = refl
 
-finished-late : (olds : List Entry) (edits : List Edit) (room : ℕ) → beforeEleven (mergeNumber (finished olds edits room)) ≡ false
+finished-late : (olds : List Entry) (edits : List Override) (room : ℕ) → beforeEleven (mergeNumber (finished olds edits room)) ≡ false
 unfolding finished
 finished-late olds edits room = go (isIdle olds edits) (isNone (overridden olds edits)) (ltb room (length (newFile olds edits))) (length (newFile olds edits))
   where
@@ -180,7 +180,7 @@ finished-late olds edits room = go (isIdle olds edits) (isNone (overridden olds 
     go false false true len = refl
     go false false false len = refl
 
-judged-late : (olds : List Entry) (edits : List Edit) (room : ℕ) (v : Verdict) → beforeEleven (mergeNumber (judgedBy olds edits room v)) ≡ false
+judged-late : (olds : List Entry) (edits : List Override) (room : ℕ) (v : Verdict) → beforeEleven (mergeNumber (judgedBy olds edits room v)) ≡ false
 judged-late olds edits room (verdict.Clean count) = finished-late olds edits room
 judged-late olds edits room (verdict.Refused why) = refusal-late why
 
@@ -215,7 +215,7 @@ module _ (n : ℕ) (old list index : List ℕ) (room : ℕ) where
           by-room : (c : Bool) → ltb (length index) (length places) ≡ c → Index
           by-room true c = same (rw (b, e, c)) (rw (b, e, c))
           by-room false c =
-              filled (rw (b, e, c) (by-twin (length places) (firstTwin (nameOf layout.Edit list) (inOrder list places)))) places e (rw (b, e, c))
+              filled (rw (b, e, c) (by-twin (length places) (firstTwin (standingName layout.Edit list) (inOrder list places)))) places e (rw (b, e, c))
 
 module _ (kind : ℕ) (old list index out : List ℕ) where
   leaves : Leaves kind old list index out
@@ -258,7 +258,7 @@ demand-1 =
             step = λ kind prefix bytes place item. step-number (stepAnswer kind prefix bytes place item);
             check = λ kind file. check-number (checkAnswer kind file);
             lookup = λ kind body name. lookup-number (lookupAnswer kind body name);
-            listing = λ kind body prefix. listing-number (listingAnswer kind body prefix);
+            prefix-start = λ kind body prefix. prefix-start-number (prefixStartAnswer kind body prefix);
             ask = λ kind file name. ask-number (askAnswer kind file name);
             loose = λ kind content. loose-number (looseAnswer kind content);
             merge = λ kind old list indexRoom room. merge-number (mergeAnswer kind old list indexRoom room);

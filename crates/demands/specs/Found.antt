@@ -26,10 +26,10 @@ use Rattle.checks.specs.declared.CheckAnswer.the-variants as checked
 use Rattle.checks.specs.Check.{checkAnswer}
 use Rattle.find.specs.declared.lookup.Lookup.the-variants.{Charted, Absent}
 use Rattle.find.specs.declared.lookup.LookupAnswer.the-variants as looked
-use Rattle.find.specs.declared.listing.Listing.the-variants.{From}
-use Rattle.find.specs.declared.listing.ListingAnswer.the-variants as listed
+use Rattle.find.specs.declared.prefix_start.PrefixStart.the-variants.{From}
+use Rattle.find.specs.declared.prefix_start.PrefixStartAnswer.the-variants as listed
 use Rattle.find.specs.Lookup.{lookupAnswer, lookupNumber}
-use Rattle.find.specs.Listing.{listingAnswer}
+use Rattle.find.specs.PrefixStart.{prefixStartAnswer}
 
 -- a file that passes the check, and its header: what the two calls answered
 pub record Checked (kind : ℕ) (file : List ℕ) : Type 0 where
@@ -53,7 +53,7 @@ pub record In (g : Given) (l : List Given) : Type 0 where
 abbrev pub Has : List ℕ → Handed → Type 0
 Has wanted (good id name) = name ≡ wanted
 Has wanted (peeled id name peeledId) = name ≡ wanted
-Has wanted (error number text) = ⊥
+Has wanted (error item text) = ⊥
 
 -- ---- the lookup
 
@@ -81,7 +81,7 @@ module _ (kind n : ℕ) (file : List ℕ) (c : Checked kind file) (name : List �
 abbrev pub wantedBy : List ℕ → Handed → List Handed → List Handed
 wantedBy prefix (good id name) l = if (begins prefix name) (good id name ∷ l) l
 wantedBy prefix (peeled id name peeledId) l = if (begins prefix name) (peeled id name peeledId ∷ l) l
-wantedBy prefix (error number text) l = l
+wantedBy prefix (error item text) l = l
 
 abbrev pub wanted : List ℕ → List Handed → List Handed
 wanted prefix [] = []
@@ -91,9 +91,9 @@ module _ (kind n : ℕ) (file : List ℕ) (c : Checked kind file) (prefix : List
   pub record ListedIfWanted : Type 0 where
     -- where the listing starts
     pub place : ℕ
-    pub starts : listingAnswer kind (bodyOf c) prefix ≡ listed.Done (From place 1)
+    pub starts : prefixStartAnswer kind (bodyOf c) prefix ≡ listed.Done (From place 1)
     -- each step from there on answers what the run is made of
-    pub steps : (at number : ℕ) → stepAnswer kind prefix (bodyOf c) at number ≡ stepped.Done (stepOf paper n prefix (bodyOf c) at number)
+    pub steps : (at item : ℕ) → stepAnswer kind prefix (bodyOf c) at item ≡ stepped.Done (stepOf paper n prefix (bodyOf c) at item)
     -- "it lists exactly the records with the prefix, in order", and then says the end
     pub out : List Given
     pub last : ℕ
@@ -105,5 +105,5 @@ module _ (kind n : ℕ) (file : List ℕ) (c : Checked kind file) (prefix : List
 pub record Demand2 : Type 0 where
   pub lookup : (kind n : ℕ) → digitsOf kind ≡ Digits n → (file : List ℕ) (c : Checked kind file) (name : List ℕ)
       → validName paper name ≡ true → overLimit (length name) ≡ false → FoundIfThere kind n file c name
-  pub listing : (kind n : ℕ) → digitsOf kind ≡ Digits n → (file : List ℕ) (c : Checked kind file) (prefix : List ℕ)
+  pub prefixed : (kind n : ℕ) → digitsOf kind ≡ Digits n → (file : List ℕ) (c : Checked kind file) (prefix : List ℕ)
       → overLimit (length prefix) ≡ false → ListedIfWanted kind n file c prefix

@@ -13,9 +13,9 @@ use Rattle.iter.specs.Step.{stepAnswer, stepNumber}
 use Rattle.checks.specs.Check.{checkAnswer, checkNumber}
 use Rattle.ask.specs.Ask.{askAnswer, askNumber}
 use Rattle.find.specs.Lookup.{lookupAnswer, lookupNumber}
-use Rattle.find.specs.Listing.{listingAnswer, listingNumber}
+use Rattle.find.specs.PrefixStart.{prefixStartAnswer, prefixStartNumber}
 use Rattle.loose.specs.Loose.{looseAnswer, looseNumber}
-use Rattle.edit.specs.List.{Listed, all, editsOf, inOrder}
+use Rattle.edits.specs.List.{Listed, all, editsOf, inOrder}
 use Rattle.merge.specs.declared.Merged.the-variants.{Done}
 use Rattle.merge.specs.Merge.{mergeAnswer, mergeNumber, outputAfter, indexAnswer}
 
@@ -34,7 +34,7 @@ pub record Numbered : Type 0 where
   pub step : (kind : ℕ) (prefix bytes : List ℕ) (place item : ℕ) → AnsweredBy (stepNumber (stepAnswer kind prefix bytes place item)) (0 ∷ 1 ∷ 17 ∷ [])
   pub check : (kind : ℕ) (file : List ℕ) → AnsweredBy (checkNumber (checkAnswer kind file)) (0 ∷ 1 ∷ 17 ∷ 2 ∷ 4 ∷ 6 ∷ [])
   pub lookup : (kind : ℕ) (body name : List ℕ) → AnsweredBy (lookupNumber (lookupAnswer kind body name)) (0 ∷ 1 ∷ 17 ∷ 3 ∷ 4 ∷ 5 ∷ [])
-  pub listing : (kind : ℕ) (body prefix : List ℕ) → AnsweredBy (listingNumber (listingAnswer kind body prefix)) (0 ∷ 1 ∷ 17 ∷ 2 ∷ [])
+  pub prefix-start : (kind : ℕ) (body prefix : List ℕ) → AnsweredBy (prefixStartNumber (prefixStartAnswer kind body prefix)) (0 ∷ 1 ∷ 17 ∷ 2 ∷ [])
   pub ask : (kind : ℕ) (file name : List ℕ) → AnsweredBy (askNumber (askAnswer kind file name)) (0 ∷ 1 ∷ 17 ∷ 3 ∷ 2 ∷ 4 ∷ 6 ∷ 5 ∷ [])
   pub loose : (kind : ℕ) (content : List ℕ) → AnsweredBy (looseNumber (looseAnswer kind content)) (0 ∷ 1 ∷ 17 ∷ 15 ∷ 16 ∷ [])
   pub merge : (kind : ℕ) (old list : List ℕ) (indexRoom room : ℕ)

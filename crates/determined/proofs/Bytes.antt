@@ -24,5 +24,5 @@ bytes = record {
   compare-begins-with = λ m k o o′. by-answer k o o′ refl;
   compare-is-same = λ m k o o′. by-answer k o o′ refl;
   name-is-valid = λ m k o o′. by-answer k o o′ refl;
-  name-is-valid-by = λ m k o o′. by-answer k o o′ refl;
+  name-is-valid-using = λ m k o o′. by-answer k o o′ refl;
 }

@@ -19,7 +19,7 @@ use Rattle.compare.proofs.order.is_less
 use Rattle.compare.proofs.prefix.begins_with
 use Rattle.compare.proofs.prefix.is_same
 use Rattle.name.proofs.is_valid
-use Rattle.name.proofs.is_valid_by
+use Rattle.name.proofs.is_valid_using
 use Rattle.determined.specs.Outcomes.{Determined, DeterminedAs}
 
 pub record Bytes : Type 2 where
@@ -42,4 +42,4 @@ pub record Bytes : Type 2 where
   pub compare-begins-with : Determined begins_with.ended (λ M. begins_with.clauses)
   pub compare-is-same : Determined is_same.ended (λ M. is_same.clauses)
   pub name-is-valid : Determined is_valid.ended (λ M. is_valid.clauses)
-  pub name-is-valid-by : Determined is_valid_by.ended (λ M. is_valid_by.clauses)
+  pub name-is-valid-using : Determined is_valid_using.ended (λ M. is_valid_using.clauses)

@@ -9,8 +9,8 @@ use Rattle.places.proofs.name.comes_first
 use Rattle.places.proofs.name.same_name
 use Rattle.sort.proofs.sort
 use Rattle.sort.proofs.twin.first_twin
-use Rattle.change.proofs.read
-use Rattle.edit.proofs.list.prepare
+use Rattle.edit.proofs.read
+use Rattle.edits.proofs.list.prepare
 use Rattle.determined.specs.Outcomes.{Determined, DeterminedAs}
 
 pub record Edits : Type 2 where
@@ -23,5 +23,5 @@ pub record Edits : Type 2 where
   pub places-same-name : Determined same_name.ended (λ M. same_name.clauses)
   pub sort-sort : Determined sort.ended (λ M. sort.clauses)
   pub sort-first-twin : Determined first_twin.ended (λ M. first_twin.clauses)
-  pub change-read : Determined read.ended (λ M. read.clauses)
-  pub edit-prepare : Determined prepare.ended (λ M. prepare.clauses)
+  pub edit-read : Determined read.ended (λ M. read.clauses)
+  pub edits-prepare : Determined prepare.ended (λ M. prepare.clauses)

@@ -5,18 +5,18 @@ use Rattle.header.proofs.open as opening
 use Rattle.decode.proofs.reference.reference
 use Rattle.decode.proofs.reference.name_of
 use Rattle.start.proofs.begin
-use Rattle.start.proofs.begin_by
+use Rattle.start.proofs.begin_using
 use Rattle.iter.proofs.step.next as iter_next
 use Rattle.iter.proofs.step.next_with_prefix
-use Rattle.iter.proofs.step.next_by
+use Rattle.iter.proofs.step.next_using
 use Rattle.iterator.proofs.new
 use Rattle.iterator.proofs.next as iterator_next
 use Rattle.iterator.proofs.first
 use Rattle.checks.proofs.check
-use Rattle.checks.proofs.check_by
+use Rattle.checks.proofs.check_using
 use Rattle.checks.proofs.take_turn
 use Rattle.loose.proofs.read
-use Rattle.loose.proofs.read_by
+use Rattle.loose.proofs.read_using
 use Rattle.loose.proofs.target_of
 use Rattle.determined.specs.Outcomes.{Determined, DeterminedAs}
 
@@ -26,16 +26,16 @@ pub record Files : Type 2 where
   pub decode-reference : Determined reference.ended (λ M. reference.clauses)
   pub decode-name-of : DeterminedAs name_of.ended (λ M. name_of.clauses) (λ κs r. now r)
   pub start-begin : Determined begin.ended (λ M. begin.clauses)
-  pub start-begin-by : Determined begin_by.ended (λ M. begin_by.clauses)
+  pub start-begin-using : Determined begin_using.ended (λ M. begin_using.clauses)
   pub iter-next : Determined iter_next.ended (λ M. iter_next.clauses)
   pub iter-next-with-prefix : Determined next_with_prefix.ended (λ M. next_with_prefix.clauses)
-  pub iter-next-by : Determined next_by.ended (λ M. next_by.clauses)
+  pub iter-next-using : Determined next_using.ended (λ M. next_using.clauses)
   pub iterator-new : Determined new.ended (λ M. new.clauses)
   pub iterator-next : Determined iterator_next.ended (λ M. iterator_next.clauses)
   pub iterator-first : Determined first.ended (λ M. first.clauses)
   pub checks-check : Determined check.ended (λ M. check.clauses)
-  pub checks-check-by : Determined check_by.ended (λ M. check_by.clauses)
+  pub checks-check-using : Determined check_using.ended (λ M. check_using.clauses)
   pub checks-take-turn : Determined take_turn.ended (λ M. take_turn.clauses)
   pub loose-read : Determined read.ended (λ M. read.clauses)
-  pub loose-read-by : Determined read_by.ended (λ M. read_by.clauses)
+  pub loose-read-using : Determined read_using.ended (λ M. read_using.clauses)
   pub loose-target-of : DeterminedAs target_of.ended (λ M. target_of.clauses) (λ κs r. now r)

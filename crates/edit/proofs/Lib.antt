@@ -1,4 +1,2 @@
-pub mod Filling
-pub mod Lists
-pub mod Ordering
-pub mod Outcomes
+pub mod Parts
+pub mod Readings

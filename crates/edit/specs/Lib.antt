@@ -1,1 +1,1 @@
-pub mod List
+pub mod Edit

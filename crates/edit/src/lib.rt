@@ -1,2 +1,101 @@
-// The edit list: edits one after another as bytes, and the index of their places in name order.
-pub mod list;
+// One edit: kind, length of the name, name, ids in raw bytes.
+ghost use mathlib.Core.Path.{_≡_};
+ghost use Prim.Native.Nat.{_+_, _<_};
+ghost use lib.Dec.{leb};
+ghost use lib.ListN.{length};
+ghost use Rattle.class.specs.Class.{classesOf};
+ghost use Rattle.edit.specs.Edit.{namedEdit, editOf};
+use length::Length;
+
+// A good edit, by places counted from its start.
+pub struct Edit {
+    // 0 delete, 1 update, 2 update with peeled id.
+    pub kind: u8,
+    // Where the name stands, and its length. The ids stand behind it.
+    pub from: usize,
+    pub name_len: usize,
+    // The bytes that the edit takes.
+    pub size: usize,
+}
+
+// Why an edit can't be taken.
+pub enum EditFault {
+    // The kind is unknown, the length has no form that a length has, or the edit is cut short.
+    Malformed,
+    // A name that is empty, too long, or breaks the name rules.
+    BadName,
+}
+
+pub enum EditReading {
+    Good(Edit),
+    Bad(EditFault),
+}
+
+// The edit at the front of the bytes, with ids of n digits.
+pub fn read(t: &[u8; 256], n: usize, s: &[u8]) -> EditReading
+    ensures { λ r. ⌜ r ≡ editOf (classesOf (now (t .entry))) n (now (s .entry)) ⌝ }
+{
+    if s.len() == 0 {
+        return EditReading::Bad(EditFault::Malformed);
+    }
+    let kind = parts::edit_kind(s, 0);
+    if 2 < kind {
+        return EditReading::Bad(EditFault::Malformed);
+    }
+    let Length::Of { value, next } = length::length_at(s, 1) else {
+        return EditReading::Bad(EditFault::Malformed);
+    };
+    behind_length(t, s, kind, next, value, wide(kind) * (n / 2))
+}
+
+// The edit whose name has this length and stands at this place, with ids of so many bytes behind it.
+fn behind_length(
+    t: &[u8; 256],
+    s: &[u8],
+    kind: u8,
+    from: usize,
+    len: usize,
+    ids: usize,
+) -> EditReading
+    ensures { λ r. ⌜ r ≡ namedEdit (classesOf (now (t .entry))) (now (s .entry)) kind from len ids ⌝ }
+{
+    if len == 0 {
+        return EditReading::Bad(EditFault::BadName);
+    }
+    if 4096 < len {
+        return EditReading::Bad(EditFault::BadName);
+    }
+    if !stands(s, from, len, ids) {
+        return EditReading::Bad(EditFault::Malformed);
+    }
+    if !name::is_valid_using(t, parts::edit_name(s, 0)) {
+        return EditReading::Bad(EditFault::BadName);
+    }
+    let size = from + len + ids;
+    EditReading::Good(Edit {
+        kind,
+        from,
+        name_len: len,
+        size,
+    })
+}
+
+// Whether a name and ids of these lengths stand there in full.
+fn stands(s: &[u8], next: usize, name: usize, ids: usize) -> bool
+    ensures { λ r. ⌜ r ≡ leb (next + name + ids) (length (now (s .entry))) ⌝ }
+{
+    if s.len() < next {
+        return false;
+    }
+    let left = s.len() - next;
+    if left < name {
+        return false;
+    }
+    ids <= left - name
+}
+
+fn wide(b: u8) -> usize
+    ensures { λ r. ⌜ (r ≡ b) × (r < 256) ⌝ }
+{
+    b as usize
+}

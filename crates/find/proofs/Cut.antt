@@ -11,12 +11,12 @@ use Rattle.compare.specs.declared.order.Order.the-variants.{Less, Equal, Greate
 use Rattle.class.specs.Class.{paper}
 use Rattle.compare.specs.Order.{orderOf}
 use Rattle.compare.proofs.Orders.{order-equal}
-use Rattle.probe.specs.Start.{recordStart}
+use Rattle.probe.specs.RecordStart.{recordStart}
 use Rattle.iter.specs.Items.{Item, nameOf}
 use Rattle.iter.specs.Stands.{Stands}
-use Rattle.search.specs.declared.Found.{Found}
+use Rattle.search.specs.declared.Halved.{Halved}
 use Rattle.search.specs.Search.{orderAt, placed, searchOf}
-use Rattle.find.specs.Listing.{placeOf}
+use Rattle.find.specs.PrefixStart.{placeOf}
 use Rattle.find.proofs.Ascending.{Apart, same, first, second}
 use Rattle.find.proofs.Checked.{Checked, two-records}
 use Rattle.find.proofs.Outcome.{Outcome, found, parted}
@@ -75,6 +75,6 @@ module _ {n : ℕ} {s : List ℕ} (c : Checked n s) (wanted : List ℕ) where
   unfolding searchOf
   cut = go _ (halves c wanted)
     where
-      go : (r : Found) → Outcome (orderAt paper n s wanted) (length s) r → Cut n s wanted (placeOf (placed paper n s wanted r))
+      go : (r : Halved) → Outcome (orderAt paper n s wanted) (length s) r → Cut n s wanted (placeOf (placed paper n s wanted r))
       go r (found m l e) = cut-hit m l e
       go r (parted low l below above) = cut-miss low l below above

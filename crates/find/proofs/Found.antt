@@ -19,7 +19,7 @@ use Rattle.iter.specs.Items.{Item, items, nameOf}
 use Rattle.checks.specs.Passes.{isGood, Passes}
 use Rattle.iter.specs.Stands.{Stands, Named}
 use Rattle.iter.proofs.Each.{each}
-use Rattle.search.specs.declared.Found.the-variants.{Hit, Miss}
+use Rattle.search.specs.declared.Halved.the-variants.{Hit, Miss}
 use Rattle.find.specs.declared.lookup.Lookup.the-variants.{Charted, Absent}
 use Rattle.search.specs.Search.{searchOf}
 use Rattle.find.specs.Lookup.{lookupOf}

@@ -46,13 +46,13 @@ module _ (n : ℕ) (t : List ℕ) where
       go (named l s e) = e ∙ ap Name len
       go (shapeless lacks e) = absurd (lacks (record { space = h .space; some = omega (arith, len, name-some h); end = rw behind (h .end) }))
 
-  good-shape : (r : Record) → recordOf paper n t ≡ Good r → shapeOf paper n t ≡ Name (r .name)
+  good-shape : (r : Record) → recordOf paper n t ≡ Good r → shapeOf paper n t ≡ Name (r .«name_len»)
   good-shape r e = go (view paper n t)
     where
-      by : Head paper n t → nameLen paper n t ≡ r .name → shapeOf paper n t ≡ Name (r .name)
+      by : Head paper n t → nameLen paper n t ≡ r .«name_len» → shapeOf paper n t ≡ Name (r .«name_len»)
       by h z = head-shape h ∙ ap Name z
 
-      go : View paper n t → shapeOf paper n t ≡ Name (r .name)
+      go : View paper n t → shapeOf paper n t ≡ Name (r .«name_len»)
       go (is-bad f w q) = absurd (let z : _≡_ {A = ℕ} 0 1 = cc in omega arith)
       go (plain h c q) = by h (cc)
       go (peeled h c p q) = by h (cc)

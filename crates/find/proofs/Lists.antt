@@ -26,9 +26,9 @@ use Rattle.iter.proofs.Each.{each}
 use Rattle.iter.proofs.Items.{items-step, tile}
 use Rattle.handed.specs.Hands.{unlessOther, upToOther, allOf}
 use Rattle.handed.proofs.Runs.{hands-out}
-use Rattle.find.specs.declared.listing.Listing.the-variants.{From}
+use Rattle.find.specs.declared.prefix_start.PrefixStart.the-variants.{From}
 use Rattle.search.specs.Search.{searchOf}
-use Rattle.find.specs.Listing.{placeOf, listingFrom, listingOf}
+use Rattle.find.specs.PrefixStart.{placeOf, prefixStartFrom, prefixStartOf}
 use Rattle.find.specs.Present.{withPrefix, ListsExactly}
 use Rattle.find.proofs.Checked.{Checked, checked}
 use Rattle.find.proofs.Cut.{Smaller, Cut, here, none, cut}
@@ -55,8 +55,8 @@ module _ (n : ℕ) (pos : 0 < n) (s : List ℕ) (good : allGood (items paper n s
   unfolding startOf firstItem
   starts-at = rw (no-hash paper s first-byte, ne-eqb (getD s 0 0) 35 first-byte)
 
-from-place : (s : List ℕ) (place : ℕ) → startOf paper (drop place s) ≡ start.At 0 1 → listingFrom paper s place ≡ From place 1
-unfolding listingFrom
+from-place : (s : List ℕ) (place : ℕ) → startOf paper (drop place s) ≡ start.At 0 1 → prefixStartFrom paper s place ≡ From place 1
+unfolding prefixStartFrom
 from-place s place e = rw (e, add-zero place)
 
 -- ---- the steps
@@ -111,7 +111,7 @@ module _ {n : ℕ} {s : List ℕ} (c : Checked n s) (prefix : List ℕ) where
       })
 
 pub lists-exactly : (n : ℕ) → 0 < n → (s : List ℕ) (count : ℕ) → Passes n (items paper n s) count → (prefix : List ℕ) → ListsExactly n s prefix
-unfolding listingOf
+unfolding prefixStartOf
 lists-exactly n pos s count passes prefix =
     let c : Checked n s = checked pos passes in
     let place = placeOf (searchOf paper n s prefix) in

@@ -7,8 +7,8 @@ use lib.Dec.{ltb}
 use borrow.Author.Tests.{ltb-true, ltb-false}
 use Rattle.compare.specs.declared.order.Order.{Order}
 use Rattle.compare.specs.declared.order.Order.the-variants.{Less, Equal, Greater}
-use Rattle.search.specs.declared.Found.{Found}
-use Rattle.search.specs.declared.Found.the-variants.{Hit, Miss}
+use Rattle.search.specs.declared.Halved.{Halved}
+use Rattle.search.specs.declared.Halved.the-variants.{Hit, Miss}
 use Rattle.search.specs.Search.{middle, halve}
 use Rattle.search.proofs.Halving.{halve-done, halve-less, halve-greater, halve-equal}
 
@@ -18,7 +18,7 @@ pub record Ascends (order : ℕ → Order) (failure : ℕ → Bool) (len : ℕ) 
   pub up : (p q : ℕ) → p ≤ q → q < len → order p ≡ Greater → order q ≡ Greater
   pub reads : (p : ℕ) → p < len → failure p ≡ false
 
-pub data Outcome (order : ℕ → Order) (len : ℕ) : Found → Type 0 where
+pub data Outcome (order : ℕ → Order) (len : ℕ) : Halved → Type 0 where
   found : (m : ℕ) → m < len → order m ≡ Equal → Outcome order len (Hit m)
   parted : (low : ℕ) → low ≤ len → ((p : ℕ) → p < low → order p ≡ Less) → ((p : ℕ) → low ≤ p → p < len → order p ≡ Greater)
       → Outcome order len (Miss low false)

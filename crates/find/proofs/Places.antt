@@ -7,17 +7,17 @@ use native.Mathlib.Omega.{arith}
 use lib.ListN.{length}
 use Rattle.class.specs.Class.{Classes}
 use Rattle.probe.proofs.Starts.{start-inside}
-use Rattle.search.specs.declared.Found.{Found}
-use Rattle.search.specs.declared.Found.the-variants.{Hit, Miss}
+use Rattle.search.specs.declared.Halved.{Halved}
+use Rattle.search.specs.declared.Halved.the-variants.{Hit, Miss}
 use Rattle.search.specs.Search.{halve, orderAt, failureAt, placed, searchOf}
-use Rattle.find.specs.Listing.{placeOf}
+use Rattle.find.specs.PrefixStart.{placeOf}
 
 module _ (byte : Classes) (n : ℕ) (s wanted : List ℕ) where
-  placed-inside : (r : Found) → placeOf (placed byte n s wanted r) ≤ length s
+  placed-inside : (r : Halved) → placeOf (placed byte n s wanted r) ≤ length s
   placed-inside (Hit m) = start-inside s m
   placed-inside (Miss low failed) = start-inside s low
 
-  pub search-inside : {r : Found} → searchOf byte n s wanted ≡ r → placeOf r ≤ length s
+  pub search-inside : {r : Halved} → searchOf byte n s wanted ≡ r → placeOf r ≤ length s
   unfolding searchOf
   search-inside e =
       rw e at (placed-inside (halve (orderAt byte n s wanted) (failureAt byte n s wanted) (length s) 0 (length s) false))

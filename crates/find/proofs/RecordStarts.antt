@@ -14,7 +14,7 @@ use Rattle.class.specs.Class.{paper, isHex}
 use Rattle.parse.specs.Line.{lineLen}
 use Rattle.parse.proofs.Fronts.{at-drop, lineLen-some}
 use Rattle.decode.specs.Record.{recordOf}
-use Rattle.probe.specs.Start.{lineStart, recordStart}
+use Rattle.probe.specs.RecordStart.{lineStart, recordStart}
 use Rattle.probe.proofs.Starts.{line-stop, line-back, start-here, start-before, start-at-end}
 use Rattle.iter.specs.Items.{Item, sizeOf, items}
 use Rattle.checks.specs.Passes.{isGood, allGood}

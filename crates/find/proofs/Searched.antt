@@ -13,15 +13,15 @@ use Rattle.compare.specs.Order.{orderOf}
 use Rattle.compare.proofs.Orders.{order-refl, order-equal}
 use Rattle.iter.specs.Items.{Item, nameOf}
 use Rattle.iter.specs.Stands.{Stands}
-use Rattle.search.specs.declared.Found.{Found}
-use Rattle.search.specs.declared.Found.the-variants.{Hit, Miss}
+use Rattle.search.specs.declared.Halved.{Halved}
+use Rattle.search.specs.declared.Halved.the-variants.{Hit, Miss}
 use Rattle.search.specs.Search.{halve, orderAt, failureAt, placed, searchOf}
 use Rattle.find.proofs.Checked.{Checked}
 use Rattle.find.proofs.Outcome.{Outcome, found, parted, outcome}
 use Rattle.find.proofs.Sides.{side, own-side, ascends}
 
 module _ {n : ℕ} {s : List ℕ} (c : Checked n s) (wanted : List ℕ) where
-  abbrev halved : Found
+  abbrev halved : Halved
   halved = halve (orderAt paper n s wanted) (failureAt paper n s wanted) (length s) 0 (length s) false
 
   pub halves : Outcome (orderAt paper n s wanted) (length s) halved
@@ -47,7 +47,7 @@ module _ {n : ℕ} {s : List ℕ} (c : Checked n s) (wanted : List ℕ) where
   unfolding searchOf
   searched = go halved refl halves
     where
-      go : (r : Found) → halved ≡ r → Outcome (orderAt paper n s wanted) (length s) r → Searched
+      go : (r : Halved) → halved ≡ r → Outcome (orderAt paper n s wanted) (length s) r → Searched
       go r q (found m l e) =
           let x = side c wanted m l in
           hit (x .stands) (order-equal (nameOf n (x .it)) wanted (sym (x .says) ∙ e)) (ap (placed paper n s wanted) q)

@@ -10,7 +10,7 @@ use Rattle.compare.specs.declared.order.Order.the-variants.{Less, Greater}
 use Rattle.class.specs.Class.{paper}
 use Rattle.compare.specs.Order.{orderOf}
 use Rattle.compare.proofs.Orders.{less-trans, less-flip, greater-flip}
-use Rattle.probe.specs.Start.{recordStart}
+use Rattle.probe.specs.RecordStart.{recordStart}
 use Rattle.iter.specs.Items.{Item, itemOf, nameOf}
 use Rattle.iter.specs.Stands.{Stands}
 use Rattle.iter.proofs.Each.{each}

@@ -1,3 +1,3 @@
-pub mod Listing
 pub mod Lookup
+pub mod PrefixStart
 pub mod Present

@@ -10,8 +10,8 @@ use Rattle.name.specs.Name.{validName}
 use Rattle.decode.specs.declared.reference.Reading.{Reading}
 use Rattle.decode.specs.declared.reference.Reading.the-variants.{Good, Bad}
 use Rattle.decode.specs.Record.{recordOf, faultNumber}
-use Rattle.search.specs.declared.Found.{Found}
-use Rattle.search.specs.declared.Found.the-variants.{Hit, Miss}
+use Rattle.search.specs.declared.Halved.{Halved}
+use Rattle.search.specs.declared.Halved.the-variants.{Hit, Miss}
 use Rattle.find.specs.declared.lookup.Lookup.{Lookup}
 use Rattle.find.specs.declared.lookup.Lookup.the-variants.{Charted, BadRecord, Unsure, Absent, BadName}
 use Rattle.find.specs.declared.lookup.LookupAnswer.{LookupAnswer}
@@ -24,7 +24,7 @@ readAt place (Good r) = Charted place r
 readAt place (Bad f) = BadRecord place f
 
 -- "On a miss: 4 if a probe failed, else 5."
-abbrev pub lookupBy : Classes → ℕ → List ℕ → Found → Lookup
+abbrev pub lookupBy : Classes → ℕ → List ℕ → Halved → Lookup
 lookupBy byte n s (Hit place) = readAt place (recordOf byte n (drop place s))
 lookupBy byte n s (Miss place failed) = if failed Unsure Absent
 

@@ -19,10 +19,10 @@ use Rattle.iter.specs.Stands.{Named}
 use Rattle.handed.specs.Run.{runOf}
 use Rattle.handed.specs.Hands.{allOf}
 use Rattle.find.specs.declared.lookup.Lookup.the-variants as lookup
-use Rattle.find.specs.declared.listing.Listing.the-variants.{From}
+use Rattle.find.specs.declared.prefix_start.PrefixStart.the-variants.{From}
 use Rattle.search.specs.Search.{halve, orderAt, failureAt, placed, searchOf, probesOf}
 use Rattle.find.specs.Lookup.{lookupOf}
-use Rattle.find.specs.Listing.{listingOf}
+use Rattle.find.specs.PrefixStart.{prefixStartOf}
 
 -- ---- "Behind the header of a file that passes the check, a valid name is found exactly if a record has it."
 
@@ -49,7 +49,7 @@ withPrefix n prefix (i ∷ l) = if (begins prefix (nameOf n i)) (i ∷ withPrefi
 -- who steps on with the prefix, from the place and the number that the listing starts with, is handed those records; then the end is said
 pub record ListsExactly (n : ℕ) (s prefix : List ℕ) : Type 0 where
   pub place : ℕ
-  pub start : listingOf paper n s prefix ≡ From place 1
+  pub start : prefixStartOf paper n s prefix ≡ From place 1
   pub all : (turns : ℕ) → length s - place < turns
       → runOf paper n prefix s turns place 1 ≡ allOf n (length s) place 1 (withPrefix n prefix (items paper n s))
 

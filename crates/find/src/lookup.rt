@@ -6,7 +6,7 @@ use decode::reference::Fault;
 use decode::reference::Reading;
 use decode::reference::Record;
 use parse::limit::Admission;
-use search::Found;
+use search::Halved;
 
 pub enum Lookup {
     // The record of that name, and where it starts.
@@ -33,7 +33,7 @@ pub fn find(kind: u32, body: &[u8], name: &[u8]) -> LookupAnswer
     match parse::limit::admit(kind, body.len(), name.len()) {
         Admission::Digits(n) => {
             let t = class::table();
-            LookupAnswer::Done(find_by(&t, n, body, name))
+            LookupAnswer::Done(find_using(&t, n, body, name))
         }
         Admission::UnknownKind => LookupAnswer::UnknownKind,
         Admission::TooLarge => LookupAnswer::TooLarge,
@@ -41,14 +41,14 @@ pub fn find(kind: u32, body: &[u8], name: &[u8]) -> LookupAnswer
 }
 
 // The same by a table of byte classes and for ids of n digits.
-pub fn find_by(t: &[u8; 256], n: usize, body: &[u8], name: &[u8]) -> Lookup
+pub fn find_using(t: &[u8; 256], n: usize, body: &[u8], name: &[u8]) -> Lookup
     ensures { λ r. ⌜ r ≡ lookupOf (classesOf (now (t .entry))) n (now (body .entry)) (now (name .entry)) ⌝ }
 {
-    if !name::is_valid_by(t, name) {
+    if !name::is_valid_using(t, name) {
         return Lookup::BadName;
     }
     match search::search(t, n, body, name) {
-        Found::Hit(place) => {
+        Halved::Hit(place) => {
             match decode::reference::reference(
                 t,
                 parse::part::between(body, place, body.len()),
@@ -58,7 +58,7 @@ pub fn find_by(t: &[u8; 256], n: usize, body: &[u8], name: &[u8]) -> Lookup
                 Reading::Bad(fault) => Lookup::BadRecord { place, fault },
             }
         }
-        Found::Miss { place: _, failed } => {
+        Halved::Miss { place: _, failed } => {
             if failed {
                 return Lookup::Unsure;
             }

@@ -23,7 +23,7 @@ use Rattle.decode.specs.declared.reference.Reading.the-variants.{Good, Bad}
 use Rattle.decode.specs.Record.{recordOf}
 use Rattle.decode.proofs.Records.{View, is-bad, plain, peeled, view, headLen, peelLen, nameLen, Fits, fits}
 use Rattle.decode.proofs.Locality.{head-line, peel-line}
-use Rattle.probe.specs.Start.{lineStart}
+use Rattle.probe.specs.RecordStart.{lineStart}
 use Rattle.start.specs.Start.{firstItem, startOf}
 use Rattle.iter.specs.Items.{Item, sizeOf, itemOf, items}
 use Rattle.iter.specs.Step.{more}
@@ -72,12 +72,12 @@ module _ (n : ℕ) (s : List ℕ) (place : ℕ) (inside : place < length s) (sta
   in-first x from len e = record { line = first; stands = record { place = place; inside = inside; begins = starts; is = refl }; from = from; len = len; is = e }
 
   -- a record of two lines, of k and m bytes: the peeled id stands in the second one, behind its first byte
-  two-lines : (k m name : ℕ) → k ≡ lineLen t → m ≡ lineLen (drop k t) → Fits paper n t (record { name = name; object = suc k; size = k + m })
-      → InLines s (partsOf n (take (k + m) t) (record { name = name; object = suc k; size = k + m }))
-  two-lines k m name l q f = go (f .object)
+  two-lines : (k m name : ℕ) → k ≡ lineLen t → m ≡ lineLen (drop k t) → Fits paper n t (record { «name_len» = name; peeled = suc k; size = k + m })
+      → InLines s (partsOf n (take (k + m) t) (record { «name_len» = name; peeled = suc k; size = k + m }))
+  two-lines k m name l q f = go (f .peeled)
     where
       go : (suc k ≡ 0) ⊎ ((suc n + name < suc k) × (suc k + n < k + m))
-          → InLines s (partsOf n (take (k + m) t) (record { name = name; object = suc k; size = k + m }))
+          → InLines s (partsOf n (take (k + m) t) (record { «name_len» = name; peeled = suc k; size = k + m }))
       go (inl z) = absurd (omega arith)
       go (inr (a, b)) =
           let d : drop k t ≡ drop (place + k) s = drop-drop k place s in
@@ -98,20 +98,20 @@ module _ (n : ℕ) (s : List ℕ) (place : ℕ) (inside : place < length s) (sta
             },
           )
 
-  item-lines : (number : ℕ) → InLines s (handedBy n number (take (sizeOf paper n t) t) (recordOf paper n t))
+  item-lines : (item : ℕ) → InLines s (handedBy n item (take (sizeOf paper n t) t) (recordOf paper n t))
   unfolding sizeOf
-  item-lines number = go (view paper n t)
+  item-lines item = go (view paper n t)
     where
-      go : View paper n t → InLines s (handedBy n number (take (sizeOf paper n t) t) (recordOf paper n t))
+      go : View paper n t → InLines s (handedBy n item (take (sizeOf paper n t) t) (recordOf paper n t))
       go (is-bad f w e) = rw e (in-first _ 0 (length first - 1) refl)
       go (plain h c e) = rw (e, head-line n t h) (in-first _ 0 n refl, in-first _ (n + 1) (nameLen paper n t) refl)
       go (peeled h c p e) = rw e (two-lines (headLen paper n t) (peelLen paper n (drop (headLen paper n t) t)) (nameLen paper n t) (head-line n t h)
           (peel-line n (drop (headLen paper n t) t) (front-at 94 (omega arith) (headLen paper n t) t c) p) (fits paper n t _ e))
 
-pub lines-from : (n : ℕ) (s : List ℕ) (l : List Item) (place number : ℕ) → items paper n (drop place s) ≡ l → (place < length s → lineStart s place ≡ place)
-    → Each (λ g. InLines s (g .what)) (handed n place number l)
-lines-from n s [] place number e start = tt
-lines-from n s (i ∷ l) place number e start =
+pub lines-from : (n : ℕ) (s : List ℕ) (l : List Item) (place item : ℕ) → items paper n (drop place s) ≡ l → (place < length s → lineStart s place ≡ place)
+    → Each (λ g. InLines s (g .what)) (handed n place item l)
+lines-from n s [] place item e start = tt
+lines-from n s (i ∷ l) place item e start =
     let t = drop place s in
     let k = sizeOf paper n t in
     let some : 0 < length t = some-item paper n t i l e in
@@ -119,7 +119,7 @@ lines-from n s (i ∷ l) place number e start =
     let is : i ≡ itemOf paper n t = cc (items-step paper n t some) in
     let long : length (i .bytes) ≡ k = ap (λ (x : Item). length (x .bytes)) is ∙ length-take-le k t (size-le paper n t) in
     let rest : items paper n (drop (place + k) s) ≡ l = ap (items paper n) (sym (drop-drop k place s)) ∙ cc (items-step paper n t some) in
-    (rw is (item-lines n s place inside (start inside) number), rw long (lines-from n s l (place + k) (more number) rest (item-behind n s place)))
+    (rw is (item-lines n s place inside (start inside) item), rw long (lines-from n s l (place + k) (more item) rest (item-behind n s place)))
 
 pub read-from-lines : (n : ℕ) (file : List ℕ) → ReadFromLines n file
 unfolding readOf startOf

@@ -33,17 +33,17 @@ use Rattle.handed.specs.Hands.{unlessOther, upToOther, allOf, HandsOut, 
 -- ---- a record's parts lie inside its own bytes
 
 module _ (byte : Classes) (n : ℕ) (t : List ℕ) (r : Record) (e : recordOf byte n t ≡ Good r) where
-  name-inside : take (r .name) (drop (n + 1) (take (r .size) t)) ≡ take (r .name) (drop (n + 1) t)
-  name-inside = part-of-front (r .name) (n + 1) (r .size) t (omega (arith, fits byte n t r e .holds))
+  name-inside : take (r .«name_len») (drop (n + 1) (take (r .size) t)) ≡ take (r .«name_len») (drop (n + 1) t)
+  name-inside = part-of-front (r .«name_len») (n + 1) (r .size) t (omega (arith, fits byte n t r e .holds))
 
   pub parts-inside : partsOf n (take (r .size) t) r ≡ partsOf n t r
-  parts-inside = go (r .object) (fits byte n t r e .object)
+  parts-inside = go (r .peeled) (fits byte n t r e .peeled)
     where
       id : take n (take (r .size) t) ≡ take n t
       id = take-take n (r .size) t (omega (arith, fits byte n t r e .holds))
 
-      go : (at : ℕ) → (at ≡ 0) ⊎ ((suc n + r .name < at) × (at + n < r .size))
-          → partsBy n (take (r .size) t) (take (r .name) (drop (n + 1) (take (r .size) t))) at ≡ partsBy n t (take (r .name) (drop (n + 1) t)) at
+      go : (at : ℕ) → (at ≡ 0) ⊎ ((suc n + r .«name_len» < at) × (at + n < r .size))
+          → partsBy n (take (r .size) t) (take (r .«name_len») (drop (n + 1) (take (r .size) t))) at ≡ partsBy n t (take (r .«name_len») (drop (n + 1) t)) at
       go zero h = λ i. good (id i) (name-inside i)
       go (suc at) (inl h) = absurd (omega arith)
       go (suc at) (inr h) =
@@ -52,7 +52,7 @@ module _ (byte : Classes) (n : ℕ) (t : List ℕ) (r : Record) (e : recordOf by
 
 -- ---- one item: what it hands out is what the step at its place tells, and the rest stands behind it
 
-module _ (byte : Classes) (n : ℕ) (prefix s : List ℕ) (place number : ℕ) (inside : place < length s) where
+module _ (byte : Classes) (n : ℕ) (prefix s : List ℕ) (place item : ℕ) (inside : place < length s) where
   abbrev t : List ℕ
   t = drop place s
 
@@ -66,71 +66,71 @@ module _ (byte : Classes) (n : ℕ) (prefix s : List ℕ) (place number : ℕ) (
   rest next following = allOf n (length s) next following (upToOther n prefix (items byte n (drop next s)))
 
   after-error : (f : Fault) → recordOf byte n t ≡ Bad f
-      → rest place number ≡ onto (given place (place + lineLen t) (error number (take (lineLen t - 1) t))) (rest (place + lineLen t) (more number))
+      → rest place item ≡ onto (given place (place + lineLen t) (error item (take (lineLen t - 1) t))) (rest (place + lineLen t) (more item))
   unfolding sizeOf
   after-error f e =
       let k = lineLen t in
       let z : sizeOf byte n t ≡ k = rw e in
       let long : length (take k t) ≡ k = length-take-le k t (lineLen-le t) in
-      ap (λ (l : List Item). allOf n (length s) place number (upToOther n prefix l)) (first-item (Bad f) k e z)
+      ap (λ (l : List Item). allOf n (length s) place item (upToOther n prefix l)) (first-item (Bad f) k e z)
       ∙ rw (long, take-take (k - 1) k t (omega arith))
 
   module _ (r : Record) (e : recordOf byte n t ≡ Good r) where
     abbrev size : ℕ
     size = r .size
 
-    as-items : rest place number
-        ≡ allOf n (length s) place number (upToOther n prefix (record { what = Good r; bytes = take size t } ∷ items byte n (drop (place + size) s)))
-    as-items = ap (λ (l : List Item). allOf n (length s) place number (upToOther n prefix l)) (first-item (Good r) size e (size-good byte n t r e))
+    as-items : rest place item
+        ≡ allOf n (length s) place item (upToOther n prefix (record { what = Good r; bytes = take size t } ∷ items byte n (drop (place + size) s)))
+    as-items = ap (λ (l : List Item). allOf n (length s) place item (upToOther n prefix l)) (first-item (Good r) size e (size-good byte n t r e))
 
-    after-other : begins prefix (take (r .name) (drop (n + 1) t)) ≡ false → rest place number ≡ record { out = []; stop = ended (length s) number }
+    after-other : begins prefix (take (r .«name_len») (drop (n + 1) t)) ≡ false → rest place item ≡ record { out = []; stop = ended (length s) item }
     after-other b = as-items ∙ rw (name-inside byte n t r e, b)
 
-    after-record : begins prefix (take (r .name) (drop (n + 1) t)) ≡ true
-        → rest place number ≡ onto (given place (place + size) (partsOf n t r)) (rest (place + size) (more number))
+    after-record : begins prefix (take (r .«name_len») (drop (n + 1) t)) ≡ true
+        → rest place item ≡ onto (given place (place + size) (partsOf n t r)) (rest (place + size) (more item))
     after-record b =
         let long : length (take size t) ≡ size = length-take-le size t (fits byte n t r e .inside) in
         as-items ∙ rw (name-inside byte n t r e, b, long)
-        (λ i. onto (given place (place + size) (parts-inside byte n t r e i)) (rest (place + size) (more number)))
+        (λ i. onto (given place (place + size) (parts-inside byte n t r e i)) (rest (place + size) (more item)))
 
 -- ---- step by step
 
 module _ (byte : Classes) (n : ℕ) (prefix s : List ℕ) where
   abbrev Runs : ℕ → ℕ → ℕ → Type 0
-  Runs turns place number =
-      length s - place < turns → runOf byte n prefix s turns place number ≡ allOf n (length s) place number (upToOther n prefix (items byte n (drop place s)))
+  Runs turns place item =
+      length s - place < turns → runOf byte n prefix s turns place item ≡ allOf n (length s) place item (upToOther n prefix (items byte n (drop place s)))
 
-  runs : (turns place number : ℕ) → Runs turns place number
+  runs : (turns place item : ℕ) → Runs turns place item
   unfolding runOf
-  runs zero place number h = absurd (omega arith)
-  runs (suc turns) place number h = go (ltb place (length s)) refl (recordOf byte n (drop place s)) refl (runs turns)
+  runs zero place item h = absurd (omega arith)
+  runs (suc turns) place item h = go (ltb place (length s)) refl (recordOf byte n (drop place s)) refl (runs turns)
     where
       go : (v : Bool) → ltb place (length s) ≡ v → (w : Reading) → recordOf byte n (drop place s) ≡ w
           → ((next following : ℕ) → Runs turns next following)
-          → runOf byte n prefix s (suc turns) place number ≡ allOf n (length s) place number (upToOther n prefix (items byte n (drop place s)))
+          → runOf byte n prefix s (suc turns) place item ≡ allOf n (length s) place item (upToOther n prefix (items byte n (drop place s)))
       go false v w e ih =
           let end : length s ≤ place = ltb-false place (length s) v in
-          rw (step-end byte n prefix s place number end, runOf, drop-of-length-le s end, items-nil byte n)
+          rw (step-end byte n prefix s place item end, runOf, drop-of-length-le s end, items-nil byte n)
       go true v (Bad f) e ih =
           let inside : place < length s = ltb-true place (length s) v in
           let some : 1 ≤ lineLen (drop place s) = lineLen-some (drop place s) (omega (arith, length-drop place s)) in
-          rw (step-error byte n prefix s place number inside f e, runOf, ih (place + lineLen (drop place s)) (more number) (omega arith))
-          (sym (after-error byte n prefix s place number inside f e))
-      go true v (Good r) e ih = by (begins prefix (take (r .name) (drop (n + 1) (drop place s)))) refl
+          rw (step-error byte n prefix s place item inside f e, runOf, ih (place + lineLen (drop place s)) (more item) (omega arith))
+          (sym (after-error byte n prefix s place item inside f e))
+      go true v (Good r) e ih = by (begins prefix (take (r .«name_len») (drop (n + 1) (drop place s)))) refl
         where
           inside : place < length s
           inside = ltb-true place (length s) v
 
-          by : (b : Bool) → begins prefix (take (r .name) (drop (n + 1) (drop place s))) ≡ b
-              → runOf byte n prefix s (suc turns) place number ≡ allOf n (length s) place number (upToOther n prefix (items byte n (drop place s)))
+          by : (b : Bool) → begins prefix (take (r .«name_len») (drop (n + 1) (drop place s))) ≡ b
+              → runOf byte n prefix s (suc turns) place item ≡ allOf n (length s) place item (upToOther n prefix (items byte n (drop place s)))
           by false b =
-              rw (step-other byte n prefix s place number inside r e b, runOf) (sym (after-other byte n prefix s place number inside r e b))
+              rw (step-other byte n prefix s place item inside r e b, runOf) (sym (after-other byte n prefix s place item inside r e b))
           by true b =
-              rw (step-good byte n prefix s place number inside r e b, runOf, ih (place + r .size) (more number) (omega (arith, inside, fits byte n (drop place s) r e .holds)))
-              (sym (after-record byte n prefix s place number inside r e b))
+              rw (step-good byte n prefix s place item inside r e b, runOf, ih (place + r .size) (more item) (omega (arith, inside, fits byte n (drop place s) r e .holds)))
+              (sym (after-record byte n prefix s place item inside r e b))
 
-pub hands-out : (byte : Classes) (n : ℕ) (prefix s : List ℕ) (place number : ℕ) → HandsOut byte n prefix s place number
-hands-out byte n prefix s place number = record { all = λ turns. runs byte n prefix s turns place number }
+pub hands-out : (byte : Classes) (n : ℕ) (prefix s : List ℕ) (place item : ℕ) → HandsOut byte n prefix s place item
+hands-out byte n prefix s place item = record { all = λ turns. runs byte n prefix s turns place item }
 
 -- ---- without a prefix, and of a file
 
@@ -142,9 +142,9 @@ no-other n (i ∷ l) = go (i .what) (no-other n l)
     go (Good r) ih = ap (λ (m : List Item). i ∷ m) ih
     go (Bad f) ih = ap (λ (m : List Item). i ∷ m) ih
 
-pub hands-out-all : (byte : Classes) (n : ℕ) (s : List ℕ) (place number : ℕ) → HandsOutAll byte n s place number
-hands-out-all byte n s place number =
-    record { all = λ turns h. runs byte n [] s turns place number h ∙ ap (allOf n (length s) place number) (no-other n (items byte n (drop place s))) }
+pub hands-out-all : (byte : Classes) (n : ℕ) (s : List ℕ) (place item : ℕ) → HandsOutAll byte n s place item
+hands-out-all byte n s place item =
+    record { all = λ turns h. runs byte n [] s turns place item h ∙ ap (allOf n (length s) place item) (no-other n (items byte n (drop place s))) }
 
 pub reads-file : (byte : Classes) (n : ℕ) (file : List ℕ) → ReadsFile byte n file
 unfolding readOf startOf

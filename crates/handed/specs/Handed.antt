@@ -11,7 +11,7 @@ use Rattle.iter.specs.Step.{more}
 pub data Handed : Type 0 where
   good : (id name : List ℕ) → Handed
   peeled : (id name peeledId : List ℕ) → Handed
-  error : (number : ℕ) (text : List ℕ) → Handed
+  error : (item : ℕ) (text : List ℕ) → Handed
 
 -- something that was handed out, the place that the step was taken from, and the next place that it told
 pub record Given : Type 0 where
@@ -30,21 +30,21 @@ partsBy n bytes name zero = good (take n bytes) name
 partsBy n bytes name (suc at) = peeled (take n bytes) name (take n (drop (suc at) bytes))
 
 abbrev pub partsOf : ℕ → List ℕ → Record → Handed
-partsOf n bytes r = partsBy n bytes (take (r .name) (drop (n + 1) bytes)) (r .object)
+partsOf n bytes r = partsBy n bytes (take (r .«name_len») (drop (n + 1) bytes)) (r .peeled)
 
 -- ---- the items of a body, handed out one after another: the first stands at a place and has a number
 
 -- "It gives the number and the covered bytes less the last one"
 abbrev pub handedBy : ℕ → ℕ → List ℕ → Reading → Handed
-handedBy n number bytes (Good r) = partsOf n bytes r
-handedBy n number bytes (Bad f) = error number (take (length bytes - 1) bytes)
+handedBy n item bytes (Good r) = partsOf n bytes r
+handedBy n item bytes (Bad f) = error item (take (length bytes - 1) bytes)
 
 abbrev pub handedAt : ℕ → ℕ → ℕ → Item → Given
-handedAt n place number i = given place (place + length (i .bytes)) (handedBy n number (i .bytes) (i .what))
+handedAt n place item i = given place (place + length (i .bytes)) (handedBy n item (i .bytes) (i .what))
 
 abbrev pub handed : ℕ → ℕ → ℕ → List Item → List Given
-handed n place number [] = []
-handed n place number (i ∷ l) = handedAt n place number i ∷ handed n (place + length (i .bytes)) (more number) l
+handed n place item [] = []
+handed n place item (i ∷ l) = handedAt n place item i ∷ handed n (place + length (i .bytes)) (more item) l
 
 -- without the places
 abbrev pub whats : List Given → List Handed

@@ -29,22 +29,22 @@ upToOther n prefix (i ∷ l) = unlessOther (i .what) (begins prefix (nameOf n i)
 
 -- "Each item raises the number by one"
 abbrev pub raised : ℕ → List Item → ℕ
-raised number [] = number
-raised number (i ∷ l) = raised (more number) l
+raised item [] = item
+raised item (i ∷ l) = raised (more item) l
 
 -- some items handed out, then the end: "Every end, a prefix's too, gives the length as next place and the number as it came."
 abbrev pub allOf : ℕ → ℕ → ℕ → ℕ → List Item → Run
-allOf n len place number l = record { out = handed n place number l; stop = ended len (raised number l) }
+allOf n len place item l = record { out = handed n place item l; stop = ended len (raised item l) }
 
 -- with a step for every byte from the place on, and one for the end. A caller may take more: the end has been said by then
-pub record HandsOut (byte : Classes) (n : ℕ) (prefix s : List ℕ) (place number : ℕ) : Type 0 where
+pub record HandsOut (byte : Classes) (n : ℕ) (prefix s : List ℕ) (place item : ℕ) : Type 0 where
   pub all : (turns : ℕ) → length s - place < turns
-      → runOf byte n prefix s turns place number ≡ allOf n (length s) place number (upToOther n prefix (items byte n (drop place s)))
+      → runOf byte n prefix s turns place item ≡ allOf n (length s) place item (upToOther n prefix (items byte n (drop place s)))
 
 -- no prefix is the empty prefix: all items come out
-pub record HandsOutAll (byte : Classes) (n : ℕ) (s : List ℕ) (place number : ℕ) : Type 0 where
+pub record HandsOutAll (byte : Classes) (n : ℕ) (s : List ℕ) (place item : ℕ) : Type 0 where
   pub all : (turns : ℕ) → length s - place < turns
-      → runOf byte n [] s turns place number ≡ allOf n (length s) place number (items byte n (drop place s))
+      → runOf byte n [] s turns place item ≡ allOf n (length s) place item (items byte n (drop place s))
 
 -- a file whose header can be read: all items behind the header
 pub record ReadsFile (byte : Classes) (n : ℕ) (file : List ℕ) : Type 0 where

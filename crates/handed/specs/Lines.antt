@@ -5,7 +5,7 @@ use Prim.Native.Nat.{ℕ, _<_}
 use lib.ListN.{length, take, drop}
 use Rattle.class.specs.Class.{paper}
 use Rattle.parse.specs.Line.{lineLen}
-use Rattle.probe.specs.Start.{lineStart}
+use Rattle.probe.specs.RecordStart.{lineStart}
 use Rattle.handed.specs.Handed.{Handed, good, peeled, error, Given}
 use Rattle.handed.specs.Run.{readOf, outOf}
 
@@ -28,7 +28,7 @@ pub record InLine (s x : List ℕ) : Type 0 where
 abbrev pub InLines : List ℕ → Handed → Type 0
 InLines s (good id name) = InLine s id × InLine s name
 InLines s (peeled id name peeledId) = InLine s id × InLine s name × InLine s peeledId
-InLines s (error number text) = InLine s text
+InLines s (error item text) = InLine s text
 
 abbrev pub Each : (Given → Type 0) → List Given → Type 0
 Each P [] = Unit {0}

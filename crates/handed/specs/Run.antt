@@ -13,7 +13,7 @@ use Rattle.handed.specs.Handed.{Given, given, error, partsOf}
 
 -- how it came to its end: a step said so, with the next place and the number that it gave; or the caller made no further step
 pub data Stop : Type 0 where
-  ended : (place number : ℕ) → Stop
+  ended : (place item : ℕ) → Stop
   unfinished : Stop
 
 pub record Run : Type 0 where
@@ -28,9 +28,9 @@ onto g r = record { out = g ∷ r .out; stop = r .stop }
 
 module _ (byte : Classes) (n : ℕ) (prefix s : List ℕ) where
   unfoldable pub runOf : ℕ → ℕ → ℕ → Run
-  runOf zero place number = record { out = []; stop = unfinished }
-  runOf (suc turns) place number =
-      elim (stepOf byte n prefix s place number) [
+  runOf zero place item = record { out = []; stop = unfinished }
+  runOf (suc turns) place item =
+      elim (stepOf byte n prefix s place item) [
         | End next last ↦ record { out = []; stop = ended next last }
         | Good r next following ↦ onto (given place next (partsOf n (drop place s) r)) (runOf turns next following)
         | Error f told text next following ↦ onto (given place next (error told (take text (drop place s)))) (runOf turns next following)
@@ -44,7 +44,7 @@ pub data Read : Type 0 where
   read : Run → Read
 
 abbrev pub readFrom : Classes → ℕ → List ℕ → Start → Read
-readFrom byte n file (At place number) = read (runOf byte n [] file (suc (length file)) place number)
+readFrom byte n file (At place item) = read (runOf byte n [] file (suc (length file)) place item)
 readFrom byte n file (BadHeader text) = refused text
 
 unfoldable pub readOf : Classes → ℕ → List ℕ → Read

@@ -1,8 +1,8 @@
 -- What the merge gives back.
 use Prim.Native.Nat.{ℕ}
-use Rattle.edit.specs.declared.list.ListFault.{ListFault}
-use Rattle.edit.specs.declared.list.ListFault.the-variants.{BadEdit, TooMany}
-use Rattle.edit.specs.List.{listFaultNumber}
+use Rattle.edits.specs.declared.list.ListFault.{ListFault}
+use Rattle.edits.specs.declared.list.ListFault.the-variants.{BadEdit, TooMany}
+use Rattle.edits.specs.List.{listFaultNumber}
 use Rattle.reply.specs.declared.told.Numbered.{Numbered}
 use Rattle.reply.specs.Told.{refusalGives, refusalBeside}
 use Rattle.merge.specs.declared.Merged.{Merged}

@@ -2,13 +2,13 @@
 ghost use mathlib.Core.Path.{_≡_};
 ghost use mathlib.Core.List.{[]};
 ghost use Rattle.header.specs.Header.{headerAnswer};
-ghost use Rattle.probe.specs.Start.{recordStart};
+ghost use Rattle.probe.specs.RecordStart.{recordStart};
 ghost use Rattle.start.specs.Start.{startAnswer};
 ghost use Rattle.iter.specs.Step.{stepAnswer};
 ghost use Rattle.checks.specs.Check.{checkAnswer};
 ghost use Rattle.ask.specs.Ask.{askAnswer};
 ghost use Rattle.find.specs.Lookup.{lookupAnswer};
-ghost use Rattle.find.specs.Listing.{listingAnswer};
+ghost use Rattle.find.specs.PrefixStart.{prefixStartAnswer};
 ghost use Rattle.loose.specs.Loose.{looseAnswer};
 ghost use Rattle.reply.specs.Head.{headerReply, nameNumber};
 ghost use Rattle.reply.specs.Walk.{startReply, stepReply, checkReply};
@@ -89,7 +89,7 @@ pub extern "C" fn packed_refs_lookup(kind: u32, body: &[u8], name: &[u8]) -> Loo
 
 #[no_mangle]
 pub extern "C" fn packed_refs_prefix(kind: u32, body: &[u8], prefix: &[u8]) -> PrefixReply
-    ensures { λ r. ⌜ r ≡ prefixReply (listingAnswer kind (now (body .entry)) (now (prefix .entry))) ⌝ }
+    ensures { λ r. ⌜ r ≡ prefixReply (prefixStartAnswer kind (now (body .entry)) (now (prefix .entry))) ⌝ }
 {
     reply::seek::prefix_reply(kind, body, prefix)
 }

@@ -1,11 +1,11 @@
 // The merge.
 ghost use mathlib.Core.Path.{_≡_};
 ghost use lib.ListN.{length};
-ghost use Rattle.change.specs.Change.{editFaultNumber};
+ghost use Rattle.edit.specs.Edit.{editFaultNumber};
 ghost use Rattle.merge.specs.Merge.{mergeAnswer, indexAnswer, outputAfter};
 ghost use Rattle.host.specs.Write.{mergeReply, mergeGives, listFaultTold};
-use change::Fault;
-use edit::list::ListFault;
+use edit::EditFault;
+use edits::list::ListFault;
 use merge::Merged;
 use reply::told::Numbered;
 
@@ -71,12 +71,12 @@ fn list_fault(why: ListFault) -> Numbered
 }
 
 // The paper's number for an edit that can't be taken.
-fn edit_fault_number(fault: Fault) -> u32
+fn edit_fault_number(fault: EditFault) -> u32
     ensures { λ r. ⌜ r ≡ editFaultNumber fault ⌝ }
 {
     match fault {
-        Fault::Malformed => 7,
-        Fault::BadName => 8,
+        EditFault::Malformed => 7,
+        EditFault::BadName => 8,
     }
 }
 

@@ -17,7 +17,7 @@ use Rattle.decode.specs.declared.reference.Fault.{Fault}
 use Rattle.decode.specs.declared.reference.Reading.{Reading}
 use Rattle.decode.specs.declared.reference.Reading.the-variants.{Good, Bad}
 use Rattle.decode.specs.Record.{recordOf}
-use Rattle.probe.specs.Start.{lineStart}
+use Rattle.probe.specs.RecordStart.{lineStart}
 use Rattle.probe.proofs.Starts.{line-stop}
 use Rattle.iter.specs.Items.{Item, coveredBy, sizeOf, itemOf, items, bytesOf}
 use Rattle.iter.specs.Stands.{Stands, Lines, one, two, Each, Tiled}

@@ -28,8 +28,8 @@ module _ {byte : Classes} {n : ℕ} {file : List ℕ} {place : ℕ} where
     goes-on = next-inside byte n file place r (k .is) (k .inside)
 
     abbrev pub named : List ℕ
-    named = take (r .name) (drop (n + 1) (drop place file))
+    named = take (r .«name_len») (drop (n + 1) (drop place file))
 
     -- the name is cut out of that slice
-    pub named-is : {x : List ℕ} → x ≡ take (r .name) (drop (n + 1) (take (length file - place) (drop place file))) → x ≡ named
-    named-is e = e ∙ ap (λ s. take (r .name) (drop (n + 1) s)) (rest-is file place)
+    pub named-is : {x : List ℕ} → x ≡ take (r .«name_len») (drop (n + 1) (take (length file - place) (drop place file))) → x ≡ named
+    named-is e = e ∙ ap (λ s. take (r .«name_len») (drop (n + 1) s)) (rest-is file place)

@@ -27,11 +27,11 @@ module _ (byte : Classes) (n : ℕ) (prefix s : List ℕ) (place item : ℕ) whe
     step-error f e = rw (lt-ltb place (length s) inside, e)
 
     module _ (r : Record) (e : recordOf byte n (drop place s) ≡ reading.Good r) where
-      pub step-other : begins prefix (take (r .name) (drop (n + 1) (drop place s))) ≡ false → stepOf byte n prefix s place item ≡ End (length s) item
+      pub step-other : begins prefix (take (r .«name_len») (drop (n + 1) (drop place s))) ≡ false → stepOf byte n prefix s place item ≡ End (length s) item
       unfolding stepOf
       step-other b = rw (lt-ltb place (length s) inside, e, b)
 
-      pub step-good : begins prefix (take (r .name) (drop (n + 1) (drop place s))) ≡ true
+      pub step-good : begins prefix (take (r .«name_len») (drop (n + 1) (drop place s))) ≡ true
           → stepOf byte n prefix s place item ≡ Good r (place + r .size) (more item)
       unfolding stepOf
       step-good b = rw (lt-ltb place (length s) inside, e, b)

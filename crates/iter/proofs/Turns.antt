@@ -19,12 +19,12 @@ use Rattle.iter.proofs.Items.{size-good, size-le, items-step}
 
 -- the name of the item at the front is that part of all the bytes
 pub item-name : (byte : Classes) (n : ℕ) (s : List ℕ) (r : Record) → recordOf byte n s ≡ Good r
-    → nameOf n (itemOf byte n s) ≡ take (r .name) (drop (n + 1) s)
+    → nameOf n (itemOf byte n s) ≡ take (r .«name_len») (drop (n + 1) s)
 item-name byte n s r e =
     let f = fits byte n s r e in
     ap (λ (w : Reading). nameIn n w (take (sizeOf byte n s) s)) e
-    ∙ ap (λ (k : ℕ). take (r .name) (drop (n + 1) (take k s))) (size-good byte n s r e)
-    ∙ part-of-front (r .name) (n + 1) (r .size) s (omega (arith, f .holds))
+    ∙ ap (λ (k : ℕ). take (r .«name_len») (drop (n + 1) (take k s))) (size-good byte n s r e)
+    ∙ part-of-front (r .«name_len») (n + 1) (r .size) s (omega (arith, f .holds))
 
 -- the item at a place, and those behind it
 pub record HeadItem (byte : Classes) (n : ℕ) (file : List ℕ) (place : ℕ) (what : Reading) (size : ℕ) : Type 0 where
@@ -58,7 +58,7 @@ module _ (byte : Classes) (n : ℕ) (file : List ℕ) (place : ℕ) where
     head-good inside =
         let f = fits byte n (drop place file) r e in
         head-item inside (Good r) (r .size) e (size-good byte n (drop place file) r e)
-        (part-of-front (r .name) (n + 1) (r .size) (drop place file) (omega (arith, f .holds)))
+        (part-of-front (r .«name_len») (n + 1) (r .size) (drop place file) (omega (arith, f .holds)))
 
     pub next-inside : place < length file → (place < place + r .size) × (place + r .size ≤ length file)
     next-inside inside =

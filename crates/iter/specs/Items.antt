@@ -45,7 +45,7 @@ bytesOf (i ∷ l) = i .bytes ++ bytesOf l
 
 -- the name of an item with ids of n digits; an error has none
 abbrev pub nameIn : ℕ → Reading → List ℕ → List ℕ
-nameIn n (Good r) s = take (r .name) (drop (n + 1) s)
+nameIn n (Good r) s = take (r .«name_len») (drop (n + 1) s)
 nameIn n (Bad f) s = []
 
 abbrev pub nameOf : ℕ → Item → List ℕ

@@ -9,7 +9,7 @@ use Rattle.decode.specs.declared.reference.Fault.{Fault}
 use Rattle.decode.specs.declared.reference.Record.{Record}
 use Rattle.decode.specs.declared.reference.Reading.the-variants as reading
 use Rattle.decode.specs.declared.reference.Reading.the-variants.{Bad}
-use Rattle.probe.specs.Start.{lineStart}
+use Rattle.probe.specs.RecordStart.{lineStart}
 use Rattle.iter.specs.Items.{Item, itemOf, items, nameOf, bytesOf}
 
 -- "Without a prefix every byte behind the header lies in exactly one item": the items' bytes, one after another, are all the bytes

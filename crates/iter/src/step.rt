@@ -12,21 +12,21 @@ pub enum Step {
     // Nothing more: the length as next place, the number as it came.
     End {
         next: usize,
-        item: u64,
+        next_item: u64,
     },
     // A good record that begins at the place.
     Good {
         found: Record,
         next: usize,
-        item: u64,
+        next_item: u64,
     },
     // A bad one: its item number, and the length of its text, which begins at the place.
     Error {
         fault: Fault,
-        number: u64,
+        item: u64,
         text: usize,
         next: usize,
-        item: u64,
+        next_item: u64,
     },
 }
 
@@ -50,7 +50,7 @@ pub fn next_with_prefix(kind: u32, s: &[u8], prefix: &[u8], place: usize, item: 
     match parse::limit::admit(kind, s.len(), prefix.len()) {
         Admission::Digits(n) => {
             let t = class::table();
-            StepAnswer::Done(next_by(&t, n, prefix, s, place, item))
+            StepAnswer::Done(next_using(&t, n, prefix, s, place, item))
         }
         Admission::UnknownKind => StepAnswer::UnknownKind,
         Admission::TooLarge => StepAnswer::TooLarge,
@@ -58,13 +58,13 @@ pub fn next_with_prefix(kind: u32, s: &[u8], prefix: &[u8], place: usize, item: 
 }
 
 // The same by a table of byte classes and for ids of n digits.
-pub fn next_by(t: &[u8; 256], n: usize, prefix: &[u8], s: &[u8], place: usize, item: u64) -> Step
+pub fn next_using(t: &[u8; 256], n: usize, prefix: &[u8], s: &[u8], place: usize, item: u64) -> Step
     ensures { λ r. ⌜ r ≡ stepOf (classesOf (now (t .entry))) n (now (prefix .entry)) (now (s .entry)) place item ⌝ }
 {
     if s.len() <= place {
         return Step::End {
             next: s.len(),
-            item,
+            next_item: item,
         };
     }
     let rest = &s[place..];
@@ -74,23 +74,23 @@ pub fn next_by(t: &[u8; 256], n: usize, prefix: &[u8], s: &[u8], place: usize, i
             if !compare::prefix::begins_with(name, prefix) {
                 return Step::End {
                     next: s.len(),
-                    item,
+                    next_item: item,
                 };
             }
             Step::Good {
                 found,
                 next: place + found.size,
-                item: one_more(item),
+                next_item: one_more(item),
             }
         }
         Reading::Bad(fault) => {
             let next = parse::line::line_end(s, place);
             Step::Error {
                 fault,
-                number: item,
+                item,
                 text: next - place - 1,
                 next,
-                item: one_more(item),
+                next_item: one_more(item),
             }
         }
     }

@@ -12,13 +12,13 @@ use Rattle.iterator.specs.declared.Stepped.{Stepped}
 -- "returns the next of both": a step's next place and its next item number
 abbrev pub nextPlace : Step → ℕ
 nextPlace (End next item) = next
-nextPlace (Good r next item) = next
-nextPlace (Error f number text next item) = next
+nextPlace (Good r next following) = next
+nextPlace (Error f item text next following) = next
 
 abbrev pub nextItem : Step → ℕ
 nextItem (End next item) = item
-nextItem (Good r next item) = item
-nextItem (Error f number text next item) = item
+nextItem (Good r next following) = following
+nextItem (Error f item text next following) = following
 
 -- the plain step's answer at the iteration's place
 abbrev pub answerOf : Iter → StepAnswer

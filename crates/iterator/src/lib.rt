@@ -76,7 +76,10 @@ pub(crate) fn goes_on(place: usize, item: u64, answer: StepAnswer) -> Stepped
 {
     match answer {
         StepAnswer::Done(done) => match done {
-            Step::End { next: end, item } => Stepped {
+            Step::End {
+                next: end,
+                next_item: item,
+            } => Stepped {
                 answer,
                 place: end,
                 item,
@@ -84,7 +87,7 @@ pub(crate) fn goes_on(place: usize, item: u64, answer: StepAnswer) -> Stepped
             Step::Good {
                 found: _,
                 next,
-                item,
+                next_item: item,
             } => Stepped {
                 answer,
                 place: next,
@@ -92,10 +95,10 @@ pub(crate) fn goes_on(place: usize, item: u64, answer: StepAnswer) -> Stepped
             },
             Step::Error {
                 fault: _,
-                number: _,
+                item: _,
                 text: _,
                 next: behind,
-                item,
+                next_item: item,
             } => Stepped {
                 answer,
                 place: behind,

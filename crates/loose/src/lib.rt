@@ -39,7 +39,7 @@ pub fn read(kind: u32, content: &[u8]) -> LooseAnswer
     match parse::limit::admit(kind, content.len(), 0) {
         Admission::Digits(n) => {
             let t = class::table();
-            LooseAnswer::Done(read_by(&t, n, content))
+            LooseAnswer::Done(read_using(&t, n, content))
         }
         Admission::UnknownKind => LooseAnswer::UnknownKind,
         Admission::TooLarge => LooseAnswer::TooLarge,
@@ -47,13 +47,13 @@ pub fn read(kind: u32, content: &[u8]) -> LooseAnswer
 }
 
 // The same by a table of byte classes and for ids of n digits.
-pub fn read_by(t: &[u8; 256], n: usize, content: &[u8]) -> Loose
+pub fn read_using(t: &[u8; 256], n: usize, content: &[u8]) -> Loose
     ensures { λ r. ⌜ r ≡ looseOf (classesOf (now (t .entry))) n (now (content .entry)) ⌝ }
 {
     if compare::prefix::begins_with(content, b"ref: ") {
         let from = past_spaces(content, 5);
         let end = path_end(t, content, from);
-        if !name::is_valid_by(t, parse::part::between(content, from, end)) {
+        if !name::is_valid_using(t, parse::part::between(content, from, end)) {
             return Loose::BadTarget;
         }
         let len = end - from;

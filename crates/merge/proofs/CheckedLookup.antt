@@ -23,7 +23,7 @@ use Rattle.iter.proofs.Each.{each}
 use Rattle.find.specs.Present.{FoundExactly}
 use Rattle.find.proofs.Found.{good-record, found-exactly}
 use Rattle.find.proofs.ItemAt.{stands-good}
-use Rattle.places.specs.Order.{same}
+use Rattle.places.specs.Order.{sameName}
 use Rattle.lines.specs.Lines.{Entry}
 use Rattle.merge.specs.Entry.{entryOf, entriesOf}
 use Rattle.merge.specs.Theorems.{entryNamed, Shows, Tells}
@@ -43,9 +43,9 @@ module _ (n : ℕ) (name : List ℕ) where
 
   some-named : (l : List Item) {e : Entry} → entryNamed name (entriesOf n l) ≡ some e → HasEntry l e
   some-named [] h = absurd (let z : _≡_ {A = ℕ} 0 1 = cc in omega arith)
-  some-named (i ∷ l) {e} h = go (same (nameOf n i) name) refl h (some-named l)
+  some-named (i ∷ l) {e} h = go (sameName (nameOf n i) name) refl h (some-named l)
     where
-      go : (t : Bool) → same (nameOf n i) name ≡ t → if t (some (entryOf n i)) (entryNamed name (entriesOf n l)) ≡ some e
+      go : (t : Bool) → sameName (nameOf n i) name ≡ t → if t (some (entryOf n i)) (entryNamed name (entriesOf n l)) ≡ some e
           → (entryNamed name (entriesOf n l) ≡ some e → HasEntry l e) → HasEntry (i ∷ l) e
       go true q z ih = record { before = []; it = i; after = l; all = refl; name-is = same-is (nameOf n i) name q; is = cc }
       go false q z ih =
@@ -58,7 +58,7 @@ module _ (n : ℕ) (name : List ℕ) where
       let f = rw (e, order-refl name) at h in
       let z : _≡_ {A = ℕ} 0 1 = cc in
       omega arith
-  none-named (b ∷ before) it after h e = go (same (nameOf n b) name) h (none-named before it after)
+  none-named (b ∷ before) it after h e = go (sameName (nameOf n b) name) h (none-named before it after)
     where
       go : (t : Bool) → if t (some (entryOf n b)) (entryNamed name (entriesOf n (before ++ it ∷ after))) ≡ none
           → (entryNamed name (entriesOf n (before ++ it ∷ after)) ≡ none → nameOf n it ≡ name → ⊥) → ⊥

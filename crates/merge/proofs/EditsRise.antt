@@ -19,15 +19,15 @@ use Rattle.places.specs.declared.name.Layout.the-variants.{Edit}
 use Rattle.sort.specs.declared.twin.Twin.{Twin}
 use Rattle.sort.specs.declared.twin.Twin.the-variants.{At, Nothing}
 use Rattle.parts.specs.Parts.{editName}
-use Rattle.places.specs.Name.{nameOf}
+use Rattle.places.specs.Name.{standingName}
 use Rattle.places.specs.Order.{comesFirst}
 use Rattle.sort.specs.Twin.{firstTwin}
 use Rattle.sort.proofs.Pairs.{Each, each-map, Pairs, pairs-by}
 use Rattle.sort.proofs.Sorting.{each-sorted}
 use Rattle.sort.proofs.Theorems.{no-twin-names-rise}
-use Rattle.edit.specs.declared.list.Prepared.the-variants.{Ready, ShortIndex, TooLarge}
-use Rattle.edit.specs.List.{Listed, all, bad, editsOf, placesOf, inOrder, twinsBy, twinsOf, preparedBy, preparedOf}
-use Rattle.edit.proofs.Ordering.{length-order}
+use Rattle.edits.specs.declared.list.Prepared.the-variants.{Ready, ShortIndex, TooLarge}
+use Rattle.edits.specs.List.{Listed, all, bad, editsOf, placesOf, inOrder, twinsBy, twinsOf, preparedBy, preparedOf}
+use Rattle.edits.proofs.Ordering.{length-order}
 use Rattle.merge.specs.Entry.{editsAt}
 use Rattle.merge.specs.Splice.{Above, Rising}
 use Rattle.merge.proofs.EditsSound.{IsEdit, places-edits, edit-name-valid, edit-puts}
@@ -44,7 +44,7 @@ module _ (list : List ℕ) where
   rising [] e = tt
   rising (p ∷ l) e = (above (editName list p) l (e .0), rising l (e .1))
 
-  pub in-order-rising : (places : List ℕ) → firstTwin (nameOf Edit list) (inOrder list places) ≡ Nothing → Rising list (inOrder list places)
+  pub in-order-rising : (places : List ℕ) → firstTwin (standingName Edit list) (inOrder list places) ≡ Nothing → Rising list (inOrder list places)
   in-order-rising places none =
       rising (inOrder list places)
       (pairs-by (λ p q. orderOf (editName list p) (editName list q) ≡ Less) (inOrder list places) (no-twin-names-rise Edit list places none))
@@ -65,7 +65,7 @@ module _ (n : ℕ) (list places : List ℕ) (listed : editsOf paper n list ≡ a
     rises last [] e a r = tt
     rises last (p ∷ l) e a r = (a .0, edit-puts n list p (e .0) half even bytes, rises (editName list p) l (e .1) (r .0) (r .1))
 
-    pub in-order-rises : firstTwin (nameOf Edit list) (inOrder list places) ≡ Nothing → Rises n [] (editsAt n list (inOrder list places))
+    pub in-order-rises : firstTwin (standingName Edit list) (inOrder list places) ≡ Nothing → Rises n [] (editsAt n list (inOrder list places))
     in-order-rises none =
         let names =
         each-map (IsEdit paper n list) (λ p. orderOf [] (editName list p) ≡ Less)
@@ -81,7 +81,7 @@ pub record Readied (byte : Classes) (n : ℕ) (list : List ℕ) (room k : ℕ) :
   pub in-order : length (inOrder list (placesOf (editsOf byte n list))) ≡ k
   pub room-enough : k ≤ room
   pub few : k ≤ 4096
-  pub no-twin : firstTwin (nameOf Edit list) (inOrder list (placesOf (editsOf byte n list))) ≡ Nothing
+  pub no-twin : firstTwin (standingName Edit list) (inOrder list (placesOf (editsOf byte n list))) ≡ Nothing
 
 module _ (byte : Classes) (n : ℕ) (list : List ℕ) (room k : ℕ) where
   ready-twin : (count : ℕ) (t : Twin) → twinsBy count t ≡ Ready k → (count ≡ k) × (t ≡ Nothing)
@@ -92,11 +92,11 @@ module _ (byte : Classes) (n : ℕ) (list : List ℕ) (room k : ℕ) where
   unfolding twinsOf
   ready-all l q e = go (ltb room (length l)) refl e
     where
-      go : (t : Bool) → ltb room (length l) ≡ t → if t ShortIndex (twinsBy (length l) (firstTwin (nameOf Edit list) (inOrder list l))) ≡ Ready k
+      go : (t : Bool) → ltb room (length l) ≡ t → if t ShortIndex (twinsBy (length l) (firstTwin (standingName Edit list) (inOrder list l))) ≡ Ready k
           → Readied byte n list room k
       go true p e = absurd (let z : _≡_ {A = ℕ} 0 1 = cc in omega arith)
       go false p e =
-          let (count, no-twin) = ready-twin (length l) (firstTwin (nameOf Edit list) (inOrder list l)) e in
+          let (count, no-twin) = ready-twin (length l) (firstTwin (standingName Edit list) (inOrder list l)) e in
           let long : length (inOrder list l) ≡ length l = rw (take-length l) at (length-order list l (length l) (omega arith)) in
           record {
             listed = rw q;

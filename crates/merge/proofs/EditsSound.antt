@@ -12,21 +12,21 @@ use Rattle.parse.specs.Choice.{if}
 use Rattle.class.specs.Class.{Classes, paper}
 use Rattle.name.specs.Name.{validName}
 use Rattle.sort.proofs.Pairs.{Each}
-use Rattle.change.specs.declared.Change.{Change}
-use Rattle.change.specs.declared.Reading.{Reading}
-use Rattle.change.specs.declared.Reading.the-variants.{Good, Bad}
+use Rattle.edit.specs.declared.Edit.{Edit}
+use Rattle.edit.specs.declared.EditReading.{EditReading}
+use Rattle.edit.specs.declared.EditReading.the-variants.{Good, Bad}
 use Rattle.length.specs.declared.Length.the-variants as long
 use Rattle.length.specs.Length.{lengthAt}
 use Rattle.length.proofs.Groups.{length-there}
 use Rattle.parts.specs.Parts.{editKind, editName, behindName}
 use Rattle.parts.proofs.Parts.{name-there, behind-there}
-use Rattle.change.specs.Change.{idBytes, changeOf}
-use Rattle.edit.specs.declared.list.ListFault.the-variants.{TooMany}
-use Rattle.edit.specs.List.{Listed, all, bad, onto, listedBy, editsFrom, editsOf}
+use Rattle.edit.specs.Edit.{idBytes, editOf}
+use Rattle.edits.specs.declared.list.ListFault.the-variants.{TooMany}
+use Rattle.edits.specs.List.{Listed, all, bad, onto, listedBy, editsFrom, editsOf}
 use Rattle.hex.specs.Hex.{hexText}
 use Rattle.hex.proofs.Laws.{length-hex, hex-is-hex}
 use Rattle.merge.specs.Entry.{newOf, editAt}
-use Rattle.change.proofs.Parts.{Whole, good-whole}
+use Rattle.edit.proofs.Parts.{Whole, good-whole}
 use Rattle.merge.proofs.Entries.{Digits, AllOf}
 
 -- ---- a list that has no fault: at each place a good edit stands, and there are no more of them than turns
@@ -43,9 +43,9 @@ module _ (byte : Classes) (n : ℕ) (list : List ℕ) where
       go : (t : Bool) → if t (bad (TooMany place)) (all []) ≡ all (p ∷ l) → Each IsEdit (p ∷ l) × (length (p ∷ l) ≤ 0)
       go true e = absurd (let z : _≡_ {A = ℕ} 0 1 = cc in omega arith)
       go false e = absurd (let z : _≡_ {A = ℕ} 0 1 = cc in omega arith)
-  edits-from (suc turns) place (p ∷ l) e = go (ltb place (length list)) (changeOf byte n (drop place list)) refl (λ k. edits-from turns k l) e
+  edits-from (suc turns) place (p ∷ l) e = go (ltb place (length list)) (editOf byte n (drop place list)) refl (λ k. edits-from turns k l) e
     where
-      next : (c : Change) → changeOf byte n (drop place list) ≡ Good c → (x : Listed) → editsFrom byte n list turns (place + c .size) ≡ x
+      next : (c : Edit) → editOf byte n (drop place list) ≡ Good c → (x : Listed) → editsFrom byte n list turns (place + c .size) ≡ x
           → ((k : ℕ) → editsFrom byte n list turns k ≡ all l → Each IsEdit l × (length l ≤ turns))
           → onto place x ≡ all (p ∷ l) → Each IsEdit (p ∷ l) × (length (p ∷ l) ≤ suc turns)
       next c q (all m) r rest e =
@@ -55,7 +55,7 @@ module _ (byte : Classes) (n : ℕ) (list : List ℕ) where
           ((rw z at (good-whole byte n (drop place list) c q), w .0), omega (arith, w .1))
       next c q (bad why) r rest e = absurd (let z : _≡_ {A = ℕ} 0 1 = cc in omega arith)
 
-      go : (t : Bool) (x : Reading) → changeOf byte n (drop place list) ≡ x
+      go : (t : Bool) (x : EditReading) → editOf byte n (drop place list) ≡ x
           → ((k : ℕ) → editsFrom byte n list turns k ≡ all l → Each IsEdit l × (length l ≤ turns))
           → if t (listedBy x place (λ c. onto place (editsFrom byte n list turns (place + c .size)))) (all []) ≡ all (p ∷ l)
           → Each IsEdit (p ∷ l) × (length (p ∷ l) ≤ suc turns)

@@ -10,7 +10,7 @@ use Rattle.class.specs.Class.{paper, isHex}
 use Rattle.compare.specs.Order.{orderOf}
 use Rattle.name.specs.Name.{validName}
 use Rattle.lines.specs.Lines.{Entry}
-use Rattle.merge.specs.Entry.{Edit}
+use Rattle.merge.specs.Entry.{Override}
 
 pub record Digits (n : ℕ) (id : List ℕ) : Type 0 where
   pub long : length id ≡ n
@@ -39,6 +39,6 @@ abbrev pub AllOf : ℕ → List ℕ → List Entry → Type 0
 AllOf n name [] = Unit {0}
 AllOf n name (e ∷ l) = (e .name ≡ name) × Sound n e × (l ≡ [])
 
-abbrev pub Rises : ℕ → List ℕ → List Edit → Type 0
+abbrev pub Rises : ℕ → List ℕ → List Override → Type 0
 Rises n last [] = Unit {0}
 Rises n last (e ∷ l) = (orderOf last (e .name) ≡ Less) × AllOf n (e .name) (e .new) × Rises n (e .name) l

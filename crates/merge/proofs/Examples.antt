@@ -16,8 +16,8 @@ use Rattle.parts.specs.Parts.{editName, behindName}
 use Rattle.places.specs.Order.{before}
 use Rattle.sort.specs.Sorted.{sorted}
 use Rattle.sort.specs.Twin.{firstTwin}
-use Rattle.change.specs.Change.{changeOf, namedChange}
-use Rattle.edit.specs.List.{editsFrom, editsOf, twinsOf, preparedOf, indexAfter}
+use Rattle.edit.specs.Edit.{editOf, namedEdit}
+use Rattle.edits.specs.List.{editsFrom, editsOf, twinsOf, preparedOf, indexAfter}
 use Rattle.hex.specs.Hex.{hexDigit}
 use Rattle.merge.specs.Merge.{newFile, finished, oldEntries, judged, editsInOrder, mergeOf, mergeAnswer, outputAfter, indexAnswer}
 use Rattle.merge.specs.Examples.{allComputed, lengths, cases, numbered, longInputs}
@@ -28,7 +28,7 @@ as-long-as-said = refl
 pub every-case : allComputed cases ≡ cases
 unfolding isHex isForbidden isLineEnd byteAt idAt eol newlineAt textAt noted firstLine headerOf recordOf sizeOf itemsBehind items judgeBody checkOf
     noComponentBeginsWithDot noLockAtTheEnd hasSlash noDotDot noForbiddenByte slashesApart noDotAtTheEnd noAtBrace notTheLoneAt validName
-    digitsOf overLimit admission lengthAt changeOf namedChange behindName editName before sorted firstTwin editsFrom editsOf twinsOf preparedOf indexAfter
+    digitsOf overLimit admission lengthAt editOf namedEdit behindName editName before sorted firstTwin editsFrom editsOf twinsOf preparedOf indexAfter
     hexDigit newFile finished oldEntries judged editsInOrder mergeOf mergeAnswer outputAfter indexAnswer
 every-case = refl
 

@@ -8,7 +8,7 @@ use lib.Dec.{eqb}
 use lib.ListN.{length, length-append}
 use borrow.Author.Tests.{eq-eqb, ne-eqb}
 use Rattle.lines.specs.Lines.{Entry, recordLine, peeledLines, linesOf, linesOfAll, headerLine}
-use Rattle.merge.specs.Entry.{Edit}
+use Rattle.merge.specs.Entry.{Override}
 use Rattle.merge.specs.Merge.{overridden, isNone, isIdle, newFile, finished}
 use Rattle.merge.specs.Splice.{splicedAnswer}
 
@@ -33,11 +33,11 @@ none-behind header (e ∷ l) =
       lines-some e,
     ))
 
-pub none-remains : (olds : List Entry) (edits : List Edit) → eqb (length (newFile olds edits)) (length headerLine) ≡ isNone (overridden olds edits)
+pub none-remains : (olds : List Entry) (edits : List Override) → eqb (length (newFile olds edits)) (length headerLine) ≡ isNone (overridden olds edits)
 unfolding newFile
 none-remains olds edits = none-behind headerLine (overridden olds edits)
 
-pub finished-is : (still : Bool) (new : List ℕ) (olds : List Entry) (edits : List Edit) (room : ℕ)
+pub finished-is : (still : Bool) (new : List ℕ) (olds : List Entry) (edits : List Override) (room : ℕ)
     → still ≡ isIdle olds edits → new ≡ newFile olds edits → splicedAnswer headerLine still new room ≡ finished olds edits room
 unfolding splicedAnswer finished
 finished-is still new olds edits room s f = rw (s, f, none-remains olds edits)

@@ -50,7 +50,7 @@ named-some n last i h = go (i .what) (i .bytes) h
 
     go : (w : Reading) (s : List ℕ) → orderOf last (nameIn n w s) ≡ Less → 0 < length s
     go w (b ∷ s) h = omega arith
-    go (Good r) [] h = absurd (none last (rw (drop-nil (n + 1), take-nil (r .name)) at h))
+    go (Good r) [] h = absurd (none last (rw (drop-nil (n + 1), take-nil (r .«name_len»)) at h))
     go (Bad f) [] h = absurd (none last h)
 
 module _ (list : List ℕ) where

@@ -21,7 +21,7 @@ use Rattle.put.specs.Cr.{withoutCR}
 use Rattle.put.proofs.Laws.{over-fits}
 use Rattle.put.proofs.Crs.{without-append}
 use Rattle.lines.specs.Lines.{Entry, linesOf, linesOfAll, headerLine}
-use Rattle.merge.specs.Entry.{Edit, entryOf, entriesOf, editAt, editsAt}
+use Rattle.merge.specs.Entry.{Override, entryOf, entriesOf, editAt, editsAt}
 use Rattle.merge.specs.Merge.{overridden, newFile}
 use Rattle.runs.specs.Runs.{Run, run, runsOf, marksOf}
 use Rattle.merge.specs.Splice.{spliced, splicedFile}
@@ -49,7 +49,7 @@ overridden-none : (olds : List Entry) → overridden olds [] ≡ olds
 overridden-none [] = refl
 overridden-none (r ∷ rs) = refl
 
-module _ (r : Entry) (rs : List Entry) (e : Edit) (es : List Edit) where
+module _ (r : Entry) (rs : List Entry) (e : Override) (es : List Override) where
   keeps : orderOf (r .name) (e .name) ≡ Less → overridden (r ∷ rs) (e ∷ es) ≡ r ∷ overridden rs (e ∷ es)
   keeps o = rw o
 

@@ -114,19 +114,19 @@ module _ (n : ℕ) (s : List ℕ) where
 
   -- ---- the entry of a good record, by its parts in all the bytes
 
-  module _ (r : Record) (e : recordOf paper n s ≡ Good r) (z : r .name ≡ nameLen paper n s) where
+  module _ (r : Record) (e : recordOf paper n s ≡ Good r) (z : r .«name_len» ≡ nameLen paper n s) where
     id-is : take n (take (sizeOf paper n s) s) ≡ take n s
     id-is = take-take n (sizeOf paper n s) s (omega (arith, size-good paper n s r e, fits paper n s r e .holds))
 
     name-is : nameOf n (itemOf paper n s) ≡ name
     name-is = rw (item-name paper n s r e, z, add-one n)
 
-    entry-plain : r .object ≡ 0 → entryOf n (itemOf paper n s) ≡ record { name = name; id = take n s; peeled = none }
+    entry-plain : r .peeled ≡ 0 → entryOf n (itemOf paper n s) ≡ record { name = name; id = take n s; peeled = none }
     entry-plain o =
         let w : peeledIn n (recordOf paper n s) (take (sizeOf paper n s) s) ≡ none = rw (e, o) in
         λ i. record { name = name-is i; id = id-is i; peeled = w i }
 
-    entry-peeled : r .object ≡ suc size → suc size + n ≤ r .size
+    entry-peeled : r .peeled ≡ suc size → suc size + n ≤ r .size
         → entryOf n (itemOf paper n s) ≡ record { name = name; id = take n s; peeled = some peeled-id }
     entry-peeled o l =
         let k = sizeOf paper n s in

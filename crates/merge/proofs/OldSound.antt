@@ -55,7 +55,7 @@ module _ (n : ℕ) (s : List ℕ) where
       let k = size-good paper n s r e in
       rw (take-take n (sizeOf paper n s) s (omega (arith, fits paper n s r e .holds))) (front-digits n s h)
 
-  name-valid : Head paper n s → (r : Record) → recordOf paper n s ≡ Good r → r .name ≡ nameLen paper n s → validName paper (nameOf n (itemOf paper n s)) ≡ true
+  name-valid : Head paper n s → (r : Record) → recordOf paper n s ≡ Good r → r .«name_len» ≡ nameLen paper n s → validName paper (nameOf n (itemOf paper n s)) ≡ true
   name-valid h r e z = rw (item-name paper n s r e, z, add-one n) (h .name)
 
   peeled-digits : (r : Record) → recordOf paper n s ≡ Good r → r .size ≡ headLen paper n s + peelLen paper n (drop (headLen paper n s) s)

@@ -9,9 +9,9 @@ use Rattle.compare.specs.declared.order.Order.the-variants.{Less, Equal, Greate
 use Rattle.parse.specs.Choice.{if}
 use Rattle.compare.specs.Order.{orderOf}
 use Rattle.compare.proofs.Orders.{order-equal, less-flip, greater-flip, less-trans}
-use Rattle.places.specs.Order.{isEqual, same}
+use Rattle.places.specs.Order.{isEqual, sameName}
 use Rattle.lines.specs.Lines.{Entry}
-use Rattle.merge.specs.Entry.{Edit}
+use Rattle.merge.specs.Entry.{Override}
 use Rattle.compare.specs.Order.{byOrder}
 use Rattle.merge.specs.Merge.{overridden}
 use Rattle.merge.specs.Theorems.{entryNamed, leftBy, afterEdits}
@@ -19,10 +19,10 @@ use Rattle.merge.proofs.Entries.{Sound, AllSound, Ascends, AllOf, Rises
 
 -- ---- a name is the same as another, or it is not
 
-pub same-greater : (a b : List ℕ) → orderOf a b ≡ Less → same b a ≡ false
+pub same-greater : (a b : List ℕ) → orderOf a b ≡ Less → sameName b a ≡ false
 same-greater a b h = ap isEqual (less-flip a b h)
 
-pub same-is : (a b : List ℕ) → same a b ≡ true → a ≡ b
+pub same-is : (a b : List ℕ) → sameName a b ≡ true → a ≡ b
 same-is a b h = go (orderOf a b) refl h
   where
     go : (o : Order) → orderOf a b ≡ o → isEqual o ≡ true → a ≡ b
@@ -42,11 +42,11 @@ none-named name (r ∷ l) u =
     rw (same-greater name (r .name) (u .0)) (none-named name l (lower name (r .name) l (u .0) (u .1)))
 
 module _ (n : ℕ) where
-  lower-edits : (low last : List ℕ) (l : List Edit) → orderOf low last ≡ Less → Rises n last l → Rises n low l
+  lower-edits : (low last : List ℕ) (l : List Override) → orderOf low last ≡ Less → Rises n last l → Rises n low l
   lower-edits low last [] h u = tt
   lower-edits low last (e ∷ l) h u = (less-trans low last (e .name) h (u .0), u .1, u .2)
 
-  none-edited : (name : List ℕ) (l : List Edit) (before : Option Entry) → Rises n name l → afterEdits name l before ≡ before
+  none-edited : (name : List ℕ) (l : List Override) (before : Option Entry) → Rises n name l → afterEdits name l before ≡ before
   none-edited name [] before u = refl
   none-edited name (e ∷ l) before u =
       rw (same-greater name (e .name) (u .0)) (none-edited name l before (lower-edits name (e .name) l (u .0) (u .2)))
@@ -63,22 +63,22 @@ module _ (n : ℕ) where
     put-ascends (e ∷ l) a last h u = rw (a .2, a .0) (h, u)
 
     put-named : (new : List Entry) → AllOf n name new → Ascends name rest → (other : List ℕ)
-        → entryNamed other (new ++ rest) ≡ if (same name other) (leftBy new) (entryNamed other rest)
-    put-named [] a u other = go (same name other) refl
+        → entryNamed other (new ++ rest) ≡ if (sameName name other) (leftBy new) (entryNamed other rest)
+    put-named [] a u other = go (sameName name other) refl
       where
-        go : (t : Bool) → same name other ≡ t → entryNamed other rest ≡ if t none (entryNamed other rest)
+        go : (t : Bool) → sameName name other ≡ t → entryNamed other rest ≡ if t none (entryNamed other rest)
         go true e = none-named other rest (subst (λ (k : List ℕ). Ascends k rest) (same-is name other e) u)
         go false e = refl
     put-named (e ∷ l) a u other = rw (a .2, a .0)
 
   -- ---- the merge
 
-  pub record Mixed (last : List ℕ) (olds : List Entry) (edits : List Edit) (l : List Entry) : Type 0 where
+  pub record Mixed (last : List ℕ) (olds : List Entry) (edits : List Override) (l : List Entry) : Type 0 where
     pub sound : AllSound n l
     pub up : Ascends last l
     pub named : (name : List ℕ) → entryNamed name l ≡ afterEdits name edits (entryNamed name olds)
 
-  module _ (last : List ℕ) (e : Edit) (es : List Edit) (l : List Entry) (above : orderOf last (e .name) ≡ Less) (new : AllOf n (e .name) (e .new)) where
+  module _ (last : List ℕ) (e : Override) (es : List Override) (l : List Entry) (above : orderOf last (e .name) ≡ Less) (new : AllOf n (e .name) (e .new)) where
     -- the edit is about no old record
     add : (olds : List Entry) → Mixed (e .name) olds es l → Mixed last olds (e ∷ es) (e .new ++ l)
     add olds m =
@@ -90,24 +90,24 @@ module _ (n : ℕ) where
 
     -- it is about the first
     replace : (r : Entry) (rs : List Entry) → r .name ≡ e .name → Mixed (e .name) rs es l → Mixed last (r ∷ rs) (e ∷ es) (e .new ++ l)
-    replace r rs same-name m = record { sound = add rs m .sound; up = add rs m .up; named = λ name. add rs m .named name ∙ go name (same (e .name) name) refl }
+    replace r rs same-name m = record { sound = add rs m .sound; up = add rs m .up; named = λ name. add rs m .named name ∙ go name (sameName (e .name) name) refl }
       where
-        go : (name : List ℕ) (t : Bool) → same (e .name) name ≡ t
+        go : (name : List ℕ) (t : Bool) → sameName (e .name) name ≡ t
             → if t (leftBy (e .new)) (afterEdits name es (entryNamed name rs)) ≡ if t (leftBy (e .new)) (afterEdits name es (entryNamed name (r ∷ rs)))
         go name true q = refl
         go name false q = rw (same-name, q)
 
   -- the first old record is about no edit
-  keep : (last : List ℕ) (r : Entry) (rs : List Entry) (edits : List Edit) (l : List Entry) → orderOf last (r .name) ≡ Less → Sound n r
+  keep : (last : List ℕ) (r : Entry) (rs : List Entry) (edits : List Override) (l : List Entry) → orderOf last (r .name) ≡ Less → Sound n r
       → Rises n (r .name) edits → Mixed (r .name) rs edits l → Mixed last (r ∷ rs) edits (r ∷ l)
-  keep last r rs edits l above s v m = record { sound = (s, m .sound); up = (above, m .up); named = λ name. go name (same (r .name) name) refl }
+  keep last r rs edits l above s v m = record { sound = (s, m .sound); up = (above, m .up); named = λ name. go name (sameName (r .name) name) refl }
     where
-      go : (name : List ℕ) (t : Bool) → same (r .name) name ≡ t
+      go : (name : List ℕ) (t : Bool) → sameName (r .name) name ≡ t
           → if t (some r) (entryNamed name l) ≡ afterEdits name edits (if t (some r) (entryNamed name rs))
       go name true q = sym (none-edited name edits (some r) (subst (λ (k : List ℕ). Rises n k edits) (same-is (r .name) name q) v))
       go name false q = m .named name
 
-  pub mixed : (last : List ℕ) (olds : List Entry) (edits : List Edit) → AllSound n olds → Ascends last olds → Rises n last edits
+  pub mixed : (last : List ℕ) (olds : List Entry) (edits : List Override) → AllSound n olds → Ascends last olds → Rises n last edits
       → Mixed last olds edits (overridden olds edits)
   mixed last [] [] s u v = record { sound = tt; up = tt; named = λ name. refl }
   mixed last [] (e ∷ es) s u v = add last e es (overridden [] es) (v .0) (v .1) [] (mixed (e .name) [] es tt tt (v .2))

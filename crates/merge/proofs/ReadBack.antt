@@ -29,8 +29,8 @@ peeledPlace first (some id) = suc first
 abbrev pub readingOf : Entry → Record
 readingOf e =
     record {
-      name = length (e .name);
-      object = peeledPlace (length (recordLine (e .id) (e .name))) (e .peeled);
+      «name_len» = length (e .name);
+      peeled = peeledPlace (length (recordLine (e .id) (e .name))) (e .peeled);
       size = length (linesOf e);
     }
 
@@ -48,32 +48,32 @@ module _ {n : ℕ} {id : List ℕ} (digits : Digits n id) (name : List ℕ) (val
   first-len = omega (arith, length-append id (32 ∷ (name ++ 10 ∷ [])), length-append name (10 ∷ []), digits .long)
 
   read-plain : (rest : List ℕ) → (getD rest 0 0 ≡ 94 → ⊥)
-      → recordOf paper n (recordLine id name ++ rest) ≡ Good (record { name = length name; object = 0; size = length (recordLine id name) })
+      → recordOf paper n (recordLine id name ++ rest) ≡ Good (record { «name_len» = length name; peeled = 0; size = length (recordLine id name) })
   read-plain rest other =
       ap (recordOf paper n) (laid id name rest)
       ∙ plain-is paper n (lineThen id name rest) (line-head digits name valid rest) (λ z. other (sym (byte-behind digits name valid rest) ∙ z))
       ∙ good-alike (name-len digits name valid rest) refl (omega (arith, head-len digits name valid rest, first-len))
 
-  module _ {object : List ℕ} (more : Digits n object) (rest : List ℕ) where
+  module _ {peeled-id : List ℕ} (more : Digits n peeled-id) (rest : List ℕ) where
     abbrev second : List ℕ
-    second = peeledLine object ++ rest
+    second = peeledLine peeled-id ++ rest
 
     abbrev both : List ℕ
     both = lineThen id name second
 
-    second-laid : second ≡ 94 ∷ (object ++ 10 ∷ rest)
+    second-laid : second ≡ 94 ∷ (peeled-id ++ 10 ∷ rest)
     second-laid = simp append-assoc
 
     peel : Peel paper n (drop (headLen paper n both) both)
     peel = rw (behind-head digits name valid second, second-laid) (line-peel more rest)
 
-    second-len : peelLen paper n (drop (headLen paper n both) both) ≡ length (peeledLine object)
+    second-len : peelLen paper n (drop (headLen paper n both) both) ≡ length (peeledLine peeled-id)
     second-len =
         rw (behind-head digits name valid second, second-laid)
-        (omega (arith, peel-len more rest, length-append object (10 ∷ []), more .long))
+        (omega (arith, peel-len more rest, length-append peeled-id (10 ∷ []), more .long))
 
     read-peeled : recordOf paper n (recordLine id name ++ second)
-        ≡ Good (record { name = length name; object = suc (length (recordLine id name)); size = length (recordLine id name) + length (peeledLine object) })
+        ≡ Good (record { «name_len» = length name; peeled = suc (length (recordLine id name)); size = length (recordLine id name) + length (peeledLine peeled-id) })
     read-peeled =
         let h : headLen paper n both ≡ length (recordLine id name) = omega (arith, head-len digits name valid second, first-len) in
         ap (recordOf paper n) (laid id name second)
@@ -82,10 +82,10 @@ module _ {n : ℕ} {id : List ℕ} (digits : Digits n id) (name : List ℕ) (val
 
   read-lines : (o : Option (List ℕ)) → DigitsIf n o → (rest : List ℕ) → (getD rest 0 0 ≡ 94 → ⊥)
       → recordOf paper n ((recordLine id name ++ peeledLines o) ++ rest)
-      ≡ Good (record { name = length name; object = peeledPlace (length (recordLine id name)) o; size = length (recordLine id name ++ peeledLines o) })
+      ≡ Good (record { «name_len» = length name; peeled = peeledPlace (length (recordLine id name)) o; size = length (recordLine id name ++ peeledLines o) })
   read-lines none d rest other = rw (append-nil (recordLine id name)) (read-plain rest other)
-  read-lines (some object) d rest other =
-      rw (append-assoc (recordLine id name) (peeledLine object) rest, length-append (recordLine id name) (peeledLine object)) (read-peeled d rest)
+  read-lines (some peeled-id) d rest other =
+      rw (append-assoc (recordLine id name) (peeledLine peeled-id) rest, length-append (recordLine id name) (peeledLine peeled-id)) (read-peeled d rest)
 
 -- a record without a peeled id ends where no `^` follows
 pub read-one : (n : ℕ) (e : Entry) → Sound n e → (rest : List ℕ) → (getD rest 0 0 ≡ 94 → ⊥) → recordOf paper n (linesOf e ++ rest) ≡ Good (readingOf e)
@@ -114,8 +114,8 @@ module _ (n : ℕ) (e : Entry) (s : Sound n e) where
 
   peeled-back : (o : Option (List ℕ)) → DigitsIf n o → peeledAt n (first ++ peeledLines o) (peeledPlace (length first) o) ≡ o
   peeled-back none d = refl
-  peeled-back (some object) d =
-      ap some (ap (take n) (behind first 94 (object ++ 10 ∷ []) (length first) refl) ∙ take-at object (10 ∷ []) n (d .long))
+  peeled-back (some peeled-id) d =
+      ap some (ap (take n) (behind first 94 (peeled-id ++ 10 ∷ []) (length first) refl) ∙ take-at peeled-id (10 ∷ []) n (d .long))
 
   pub entry-back : entryOf n (written e) ≡ e
   entry-back = λ i. record { name = name-back i; id = id-back i; peeled = peeled-back (e .peeled) (s .peeled) i }

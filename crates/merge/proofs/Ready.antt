@@ -15,12 +15,12 @@ use Rattle.header.specs.declared.Opened.the-variants as opened
 use Rattle.header.specs.Header.{headerOf}
 use Rattle.checks.specs.Check.{judgeBody, checkOf}
 use Rattle.iter.specs.Items.{items}
-use Rattle.edit.specs.declared.list.Prepared.{Prepared}
-use Rattle.edit.specs.declared.list.Prepared.the-variants.{Ready, TooLarge}
-use Rattle.edit.specs.List.{editsOf, placesOf, inOrder, preparedBy, preparedOf, indexBy, indexAfter}
+use Rattle.edits.specs.declared.list.Prepared.{Prepared}
+use Rattle.edits.specs.declared.list.Prepared.the-variants.{Ready, TooLarge}
+use Rattle.edits.specs.List.{editsOf, placesOf, inOrder, preparedBy, preparedOf, indexBy, indexAfter}
 use Rattle.checks.specs.declared.Refusal.the-variants.{BadHeader}
 use Rattle.merge.specs.declared.Merged.the-variants.{Refused}
-use Rattle.merge.specs.Entry.{Edit, entriesOf}
+use Rattle.merge.specs.Entry.{Override, entriesOf}
 use Rattle.merge.specs.Merge.{oldEntries, judgedBy, judged, listed, mergeOf}
 use Rattle.merge.proofs.EditsRise.{Readied, readied}
 
@@ -56,13 +56,13 @@ module _ (byte : Classes) (n : ℕ) (list index : List ℕ) (k : ℕ) (e : prepa
 -- ---- by what was found of the list
 
 module _ (byte : Classes) (n : ℕ) (file list : List ℕ) (indexRoom room : ℕ) where
-  pub merge-by-list : (p : Prepared) → preparedOf byte n list indexRoom ≡ p → mergeOf byte n file list indexRoom room ≡ listed byte n file list room p
+  pub merge-using-list : (p : Prepared) → preparedOf byte n list indexRoom ≡ p → mergeOf byte n file list indexRoom room ≡ listed byte n file list room p
   unfolding mergeOf
-  merge-by-list p e = ap (listed byte n file list room) e
+  merge-using-list p e = ap (listed byte n file list room) e
 
 -- ---- by what was found of the header
 
-module _ (byte : Classes) (n : ℕ) (file : List ℕ) (edits : List Edit) (room : ℕ) where
+module _ (byte : Classes) (n : ℕ) (file : List ℕ) (edits : List Override) (room : ℕ) where
   pub bad-header : (text : ℕ) → headerOf byte file ≡ opened.Unreadable text → judged byte n file edits room ≡ Refused (BadHeader text)
   unfolding judged checkOf
   bad-header text e = rw e

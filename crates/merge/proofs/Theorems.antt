@@ -12,12 +12,12 @@ use Rattle.checks.specs.CheckMeans.{Body}
 use Rattle.iter.specs.Items.{items}
 use Rattle.checks.specs.Passes.{Passes}
 use Rattle.checks.proofs.CheckMeans.{check-means}
-use Rattle.edit.specs.declared.list.Prepared.{Prepared}
-use Rattle.edit.specs.declared.list.Prepared.the-variants as prepared
-use Rattle.edit.specs.List.{editsOf, placesOf, preparedOf}
+use Rattle.edits.specs.declared.list.Prepared.{Prepared}
+use Rattle.edits.specs.declared.list.Prepared.the-variants as prepared
+use Rattle.edits.specs.List.{editsOf, placesOf, preparedOf}
 use Rattle.merge.specs.declared.Merged.the-variants.{Done}
 use Rattle.lines.specs.Lines.{Entry, linesOfAll}
-use Rattle.merge.specs.Entry.{Edit, entriesOf}
+use Rattle.merge.specs.Entry.{Override, entriesOf}
 use Rattle.merge.specs.Merge.{overridden, newFile, oldEntries, editsInOrder, judgedBy, judged, listed, mergeOf}
 use Rattle.merge.specs.Theorems.{NewFileMeans, OneMerge}
 use Rattle.merge.proofs.EditsRise.{readied, in-order-rises}
@@ -30,7 +30,7 @@ use Rattle.merge.proofs.WrittenItems.{entries-back}
 
 -- ---- the new file, where the old records and the edits are sound and rise
 
-module _ (n : ℕ) (digits : 0 < n) (olds : List Entry) (edits : List Edit) where
+module _ (n : ℕ) (digits : 0 < n) (olds : List Entry) (edits : List Override) where
   new-file-means : AllSound n olds → Ascends [] olds → Rises n [] edits → NewFileMeans n olds edits
   unfolding newFile
   new-file-means s u v =

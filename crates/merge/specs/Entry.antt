@@ -18,7 +18,7 @@ peeledAt n s zero = none
 peeledAt n s (suc place) = some (take n (drop (suc place) s))
 
 abbrev pub peeledIn : ℕ → Reading → List ℕ → Option (List ℕ)
-peeledIn n (Good r) s = peeledAt n s (r .object)
+peeledIn n (Good r) s = peeledAt n s (r .peeled)
 peeledIn n (Bad f) s = none
 
 abbrev pub entryOf : ℕ → Item → Entry
@@ -31,7 +31,7 @@ entriesOf n (i ∷ l) = entryOf n i ∷ entriesOf n l
 -- ---- edits
 
 -- the name that it is about, and what stands in the place of the record of that name: nothing after a delete, one record after an update
-pub record Edit : Type 0 where
+pub record Override : Type 0 where
   pub name : List ℕ
   pub new : List Entry
 
@@ -43,11 +43,11 @@ newOf (suc zero) name id peeled = record { name = name; id = hexText id; peeled 
 newOf (suc (suc kind)) name id peeled = record { name = name; id = hexText id; peeled = some (hexText peeled) } ∷ []
 
 -- the edit at a place of the list
-abbrev pub editAt : ℕ → List ℕ → ℕ → Edit
+abbrev pub editAt : ℕ → List ℕ → ℕ → Override
 editAt n list place =
     let name = editName list place in
     record { name = name; new = newOf (editKind list place) name (editId n list place) (editPeeled n list place) }
 
-abbrev pub editsAt : ℕ → List ℕ → List ℕ → List Edit
+abbrev pub editsAt : ℕ → List ℕ → List ℕ → List Override
 editsAt n list [] = []
 editsAt n list (p ∷ ps) = editAt n list p ∷ editsAt n list ps

@@ -7,8 +7,8 @@ use Rattle.header.specs.Header.{mark}
 use Rattle.lines.specs.Lines.{headerLine}
 use Rattle.merge.specs.declared.Merged.{Merged}
 use Rattle.checks.specs.declared.Refusal.the-variants.{BadHeader, BadRecord, Unsorted}
-use Rattle.change.specs.declared.Fault.the-variants.{Malformed, BadName}
-use Rattle.edit.specs.declared.list.ListFault.the-variants.{BadEdit, TooMany}
+use Rattle.edit.specs.declared.EditFault.the-variants.{Malformed, BadName}
+use Rattle.edits.specs.declared.list.ListFault.the-variants.{BadEdit, TooMany}
 use Rattle.merge.specs.declared.Merged.the-variants.{Done, UnknownKind, TooLarge, BadList, ShortIndex, Twins, Refused, NothingToDo, NoRecord, ShortOutput}
 use Rattle.merge.specs.Merge.{mergeAnswer, mergeNumber, indexAnswer, outputAfter}
 
@@ -70,7 +70,7 @@ abbrev pub update : ℕ → List ℕ → List ℕ
 update letter id = 1 ∷ 8 ∷ (name letter ++ id)
 
 abbrev pub updatePeeled : ℕ → List ℕ → List ℕ → List ℕ
-updatePeeled letter id object = 2 ∷ 8 ∷ (name letter ++ (id ++ object))
+updatePeeled letter id peeled = 2 ∷ 8 ∷ (name letter ++ (id ++ peeled))
 
 -- ---- the worked merge
 

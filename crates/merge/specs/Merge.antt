@@ -15,19 +15,19 @@ use Rattle.checks.specs.declared.Verdict.{Verdict}
 use Rattle.checks.specs.declared.Verdict.the-variants as verdict
 use Rattle.checks.specs.Check.{checkOf, refusalNumber}
 use Rattle.iter.specs.Items.{items}
-use Rattle.places.specs.Order.{same}
-use Rattle.edit.specs.declared.list.Prepared.{Prepared}
-use Rattle.edit.specs.declared.list.Prepared.the-variants as prepared
-use Rattle.edit.specs.List.{editsOf, placesOf, inOrder, preparedOf, indexAfter, listFaultNumber}
+use Rattle.places.specs.Order.{sameName}
+use Rattle.edits.specs.declared.list.Prepared.{Prepared}
+use Rattle.edits.specs.declared.list.Prepared.the-variants as prepared
+use Rattle.edits.specs.List.{editsOf, placesOf, inOrder, preparedOf, indexAfter, listFaultNumber}
 use Rattle.merge.specs.declared.Merged.{Merged}
 use Rattle.merge.specs.declared.Merged.the-variants.{Done, UnknownKind, TooLarge, BadList, ShortIndex, Twins, Refused, NothingToDo, NoRecord, ShortOutput}
 use Rattle.lines.specs.Lines.{Entry, headerLine, fileOf}
-use Rattle.merge.specs.Entry.{Edit, entriesOf, editsAt}
+use Rattle.merge.specs.Entry.{Override, entriesOf, editsAt}
 
 -- ---- the new records
 
 -- "the old records overridden by the edits, in name order": both come in name order, and where both have a name the edit counts
-abbrev pub overridden : List Entry → List Edit → List Entry
+abbrev pub overridden : List Entry → List Override → List Entry
 overridden [] [] = []
 overridden [] (e ∷ es) = e .new ++ overridden [] es
 overridden (r ∷ rs) [] = r ∷ rs
@@ -42,20 +42,20 @@ isNone (x ∷ l) = false
 
 abbrev pub hasName : List ℕ → List Entry → Bool
 hasName name [] = false
-hasName name (r ∷ rs) = same (r .name) name || hasName name rs
+hasName name (r ∷ rs) = sameName (r .name) name || hasName name rs
 
-abbrev pub isIdle : List Entry → List Edit → Bool
+abbrev pub isIdle : List Entry → List Override → Bool
 isIdle olds [] = true
 isIdle olds (e ∷ es) = isNone (e .new) && (not (hasName (e .name) olds) && isIdle olds es)
 
 -- ---- the new file
 
 -- "Success: the 46 bytes [..] with LF, then the old records overridden by the edits, in name order": this is where the header is chosen
-unfoldable pub newFile : List Entry → List Edit → List ℕ
+unfoldable pub newFile : List Entry → List Override → List ℕ
 newFile olds edits = fileOf headerLine (overridden olds edits)
 
 -- "13, 14, 12": nothing to do; no record remains; the new file is longer than the output
-unfoldable pub finished : List Entry → List Edit → ℕ → Merged
+unfoldable pub finished : List Entry → List Override → ℕ → Merged
 finished olds edits room =
     if (isIdle olds edits) NothingToDo
     (if (isNone (overridden olds edits)) NoRecord
@@ -69,7 +69,7 @@ bodyBy file (Header h) = drop (h .body) file
 bodyBy file (Unreadable text) = []
 
 -- "2, 4/6 by place", where these are the old records
-abbrev pub judgedBy : List Entry → List Edit → ℕ → Verdict → Merged
+abbrev pub judgedBy : List Entry → List Override → ℕ → Verdict → Merged
 judgedBy olds edits room (verdict.Clean count) = finished olds edits room
 judgedBy olds edits room (verdict.Refused why) = Refused why
 
@@ -77,12 +77,12 @@ module _ (byte : Classes) (n : ℕ) (file : List ℕ) where
   unfoldable pub oldEntries : List Entry
   oldEntries = entriesOf n (items byte n (bodyBy file (headerOf byte file)))
 
-  unfoldable pub judged : List Edit → ℕ → Merged
+  unfoldable pub judged : List Override → ℕ → Merged
   judged edits room = judgedBy oldEntries edits room (checkOf byte n file)
 
   module _ (list : List ℕ) where
     -- the edits in name order
-    unfoldable pub editsInOrder : List Edit
+    unfoldable pub editsInOrder : List Override
     editsInOrder = editsAt n list (inOrder list (placesOf (editsOf byte n list)))
 
     -- "7/8/9 by place, 10, 11"

@@ -17,16 +17,16 @@ use Rattle.checks.specs.Check.{checkOf}
 use Rattle.iter.specs.Items.{itemOf, items}
 use Rattle.find.specs.declared.lookup.Lookup.the-variants.{Charted, Absent}
 use Rattle.find.specs.Lookup.{lookupOf}
-use Rattle.places.specs.Order.{same}
+use Rattle.places.specs.Order.{sameName}
 use Rattle.merge.specs.declared.Merged.the-variants.{Done}
 use Rattle.lines.specs.Lines.{Entry}
-use Rattle.merge.specs.Entry.{Edit, entryOf, entriesOf}
+use Rattle.merge.specs.Entry.{Override, entryOf, entriesOf}
 use Rattle.merge.specs.Merge.{overridden, newFile, oldEntries, editsInOrder, mergeOf}
 
 -- the record of a name
 abbrev pub entryNamed : List ℕ → List Entry → Option Entry
 entryNamed name [] = none
-entryNamed name (r ∷ rs) = if (same (r .name) name) (some r) (entryNamed name rs)
+entryNamed name (r ∷ rs) = if (sameName (r .name) name) (some r) (entryNamed name rs)
 
 -- what an edit leaves: the record of an update, nothing of a delete
 abbrev pub leftBy : List Entry → Option Entry
@@ -34,9 +34,9 @@ leftBy [] = none
 leftBy (e ∷ l) = some e
 
 -- what stands under a name after the edits, where something stood under it before: what the edit of that name leaves, or that
-abbrev pub afterEdits : List ℕ → List Edit → Option Entry → Option Entry
+abbrev pub afterEdits : List ℕ → List Override → Option Entry → Option Entry
 afterEdits name [] before = before
-afterEdits name (e ∷ es) before = if (same (e .name) name) (leftBy (e .new)) (afterEdits name es before)
+afterEdits name (e ∷ es) before = if (sameName (e .name) name) (leftBy (e .new)) (afterEdits name es before)
 
 -- a lookup of a name behind a header finds a record that is the entry
 pub record Shows (n : ℕ) (body name : List ℕ) (e : Entry) : Type 0 where
@@ -51,7 +51,7 @@ Tells n body name (some e) = Shows n body name e
 
 -- of a new file: it passes the check, its records are the old ones overridden by the edits, and "looking up any valid name in it gives
 -- the last edit of that name, or the old record, or 5 for a delete"
-pub record NewFileMeans (n : ℕ) (olds : List Entry) (edits : List Edit) : Type 0 where
+pub record NewFileMeans (n : ℕ) (olds : List Entry) (edits : List Override) : Type 0 where
   pub header : headerOf paper (newFile olds edits) ≡ Header (record { peeled = Fully; sorted = true; body = 46 })
   pub passes : checkOf paper n (newFile olds edits) ≡ Clean (length (overridden olds edits))
   pub records : entriesOf n (items paper n (drop 46 (newFile olds edits))) ≡ overridden olds edits

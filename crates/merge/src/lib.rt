@@ -1,6 +1,6 @@
 // The merge of an old file and an edit list into a lent output.
 //
-// The edits are read and put in name order first (`edit`). One pass over the old file then checks it and settles for each edit which run of
+// The edits are read and put in name order first (`edits`). One pass over the old file then checks it and settles for each edit which run of
 // old bytes it replaces (`runs`). From the runs it is known what the new file is, so the last refusals can be given, and the writing
 // copies old bytes between the runs as they stand (`write`).
 ghost use mathlib.Core.Path.{_≡_};
@@ -9,7 +9,7 @@ ghost use lib.ListN.{length, drop};
 ghost use Rattle.class.specs.Class.{paper, classTable};
 ghost use Rattle.checks.specs.Check.{judgeBody};
 ghost use Rattle.iter.specs.Items.{items};
-ghost use Rattle.edit.specs.List.{indexAfter};
+ghost use Rattle.edits.specs.List.{indexAfter};
 ghost use Rattle.lines.specs.Lines.{headerLine};
 ghost use Rattle.merge.specs.Entry.{entriesOf, editsAt};
 ghost use Rattle.merge.specs.Merge.{mergeAnswer, outputAfter, indexAnswer, mergeOf, outputBy, newFile, oldEntries, editsInOrder, judged, judgedBy};
@@ -17,8 +17,8 @@ ghost use Rattle.runs.specs.Runs.{isStill};
 ghost use Rattle.merge.specs.Splice.{splicedFile, splicedAnswer, Rising};
 use checks::Refusal;
 use checks::Verdict;
-use edit::list::ListFault;
-use edit::list::Prepared;
+use edits::list::ListFault;
+use edits::list::Prepared;
 use header::Opened;
 use parse::limit::Admission;
 
@@ -51,7 +51,7 @@ pub fn merge(kind: u32, old: &[u8], list: &[u8], index: &mut [u32], out: &mut [u
     match parse::limit::admit(kind, old.len(), list.len()) {
         Admission::Digits(n) => {
             let t = class::table();
-            merge_by(&t, n, old, list, index, out)
+            merge_using(&t, n, old, list, index, out)
         }
         Admission::UnknownKind => Merged::UnknownKind,
         Admission::TooLarge => Merged::TooLarge,
@@ -59,7 +59,7 @@ pub fn merge(kind: u32, old: &[u8], list: &[u8], index: &mut [u32], out: &mut [u
 }
 
 // With the table of byte classes made, and inputs that are not refused.
-fn merge_by(
+fn merge_using(
     t: &[u8; 256],
     n: usize,
     old: &[u8],
@@ -72,7 +72,7 @@ fn merge_by(
     ensures { λ _. ⌜ now (index .exit) ≡ indexAfter paper n (now (list .entry)) (now (index .entry)) ⌝ }
     ensures { λ r. ⌜ now (out .exit) ≡ outputBy (newFile (oldEntries paper n (now (old .entry))) (editsInOrder paper n (now (old .entry)) (now (list .entry)))) (now (out .entry)) r ⌝ }
 {
-    match edit::list::prepare(t, n, list, index) {
+    match edits::list::prepare(t, n, list, index) {
         Prepared::Ready(k) => with_edits(t, n, old, list, &index[0..k], out),
         Prepared::BadList(why) => Merged::BadList(why),
         Prepared::ShortIndex => Merged::ShortIndex,

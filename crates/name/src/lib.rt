@@ -14,11 +14,11 @@ pub fn is_valid(s: &[u8]) -> bool
     ensures { λ r. ⌜ r ≡ validName paper (now (s .entry)) ⌝ }
 {
     let t = class::table();
-    is_valid_by(&t, s)
+    is_valid_using(&t, s)
 }
 
 // The same, by a table of byte classes that the caller made.
-pub fn is_valid_by(t: &[u8; 256], s: &[u8]) -> bool
+pub fn is_valid_using(t: &[u8; 256], s: &[u8]) -> bool
     ensures { λ r. ⌜ r ≡ validName (classesOf (now (t .entry))) (now (s .entry)) ⌝ }
 {
     // A name is read as if a slash stood before it, so that its first byte is judged as the first of a component.

@@ -9,7 +9,7 @@ use Rattle.name.specs.Name.{noComponentBeginsWithDot, noLockAtTheEnd, hasSlash,
 use Rattle.header.specs.Header.{headerOf}
 use Rattle.decode.specs.Record.{recordOf}
 use Rattle.probe.specs.Shape.{shapeOf}
-use Rattle.probe.specs.Start.{recordStart}
+use Rattle.probe.specs.RecordStart.{recordStart}
 use Rattle.start.specs.Start.{firstItem, startOf}
 use Rattle.iter.specs.Step.{more, stepOf}
 use Rattle.handed.specs.Run.{runOf, readOf}
@@ -21,8 +21,8 @@ use Rattle.length.specs.Length.{lengthAt}
 use Rattle.parts.specs.Parts.{editKind, editName, behindName}
 use Rattle.sort.specs.Sorted.{sorted}
 use Rattle.sort.specs.Twin.{firstTwin}
-use Rattle.change.specs.Change.{changeOf, namedChange}
-use Rattle.edit.specs.List.{editsFrom, editsOf, twinsOf, preparedOf}
+use Rattle.edit.specs.Edit.{editOf, namedEdit}
+use Rattle.edits.specs.List.{editsFrom, editsOf, twinsOf, preparedOf}
 use Rattle.merge.specs.Merge.{finished, oldEntries, judged, editsInOrder, mergeOf, mergeAnswer}
 use Rattle.loose.specs.Loose.{symbolicOf, looseOf, looseAnswer}
 use Rattle.paper.specs.Cases.{EveryCase}
@@ -31,5 +31,5 @@ pub every-case : EveryCase
 unfolding isHex isForbidden isLineEnd byteAt idAt eol newlineAt textAt headerOf recordOf shapeOf recordStart firstItem startOf more stepOf runOf readOf sizeOf itemsBehind items
     noComponentBeginsWithDot noLockAtTheEnd hasSlash noDotDot noForbiddenByte slashesApart noDotAtTheEnd noAtBrace notTheLoneAt validName
     judgeBody checkOf checkAnswer probedOf halve searchOf lookupOf lookupAnswer lengthAt symbolicOf looseOf looseAnswer admission digitsOf overLimit
-    changeOf namedChange behindName editName sorted firstTwin editsFrom editsOf twinsOf preparedOf finished oldEntries judged editsInOrder mergeOf mergeAnswer
+    editOf namedEdit behindName editName sorted firstTwin editsFrom editsOf twinsOf preparedOf finished oldEntries judged editsInOrder mergeOf mergeAnswer
 every-case = refl

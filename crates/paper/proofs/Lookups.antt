@@ -8,7 +8,7 @@ use Rattle.name.specs.Name.{noComponentBeginsWithDot, noLockAtTheEnd, hasSlash,
 use Rattle.header.specs.Header.{headerOf}
 use Rattle.decode.specs.Record.{recordOf}
 use Rattle.probe.specs.Shape.{shapeOf}
-use Rattle.probe.specs.Start.{recordStart}
+use Rattle.probe.specs.RecordStart.{recordStart}
 use Rattle.iter.specs.Items.{sizeOf, itemsBehind, items}
 use Rattle.checks.specs.Check.{judgeBody}
 use Rattle.search.specs.Search.{probedOf, halve, searchOf}

@@ -42,7 +42,7 @@ cases =
     -- a line that can't be read: never absent
     ∷ record { bytes = 120 ∷ 10 ∷ []; found = lookup.Unsure; asked = told.Refused (BadRecord 0 Id) }
     -- a record of that name, and one of another
-    ∷ record { bytes = line 97 []; found = lookup.Charted 0 (record { name = 8; object = 0; size = 50 }); asked = told.Charted 0 (record { name = 8; object = 0; size = 50 }) }
+    ∷ record { bytes = line 97 []; found = lookup.Charted 0 (record { «name_len» = 8; peeled = 0; size = 50 }); asked = told.Charted 0 (record { «name_len» = 8; peeled = 0; size = 50 }) }
     ∷ record { bytes = line 98 []; found = lookup.Absent; asked = told.Absent }
     -- a bad `^` line spoils the record before it: a hit gives 4 with its place
     ∷ record { bytes = line 97 (94 ∷ 122 ∷ 122 ∷ 10 ∷ []); found = lookup.BadRecord 0 Peeled; asked = told.Refused (BadRecord 0 Peeled) }

@@ -13,6 +13,6 @@ unfoldable pub textOf : List ℕ → List ℕ
 textOf r = take (textLen paper r) r
 
 -- a record: an id of so many digits, one byte, and its name as text
-abbrev pub nameOf : Layout → List ℕ → ℕ → List ℕ
-nameOf Edit s p = editName s p
-nameOf (Record digits) s p = textOf (drop (p + digits + 1) s)
+abbrev pub standingName : Layout → List ℕ → ℕ → List ℕ
+standingName Edit s p = editName s p
+standingName (Record digits) s p = textOf (drop (p + digits + 1) s)

@@ -10,7 +10,7 @@ use lib.Dec.{ltb, eqb}
 use lib.ListN.{getD, length, List·getD-eq-default}
 use borrow.Author.Tests.{eq-eqb, ne-eqb, eqb-true, eqb-false, ltb-true, ltb-false}
 use Rattle.parse.specs.Choice.{if}
-use Rattle.probe.specs.Start.{lineStart, recordStart}
+use Rattle.probe.specs.RecordStart.{lineStart, recordStart}
 
 module _ (s : List ℕ) where
   pub line-first : (i : ℕ) → i ≤ 0 → lineStart s i ≡ 0

@@ -1,2 +1,2 @@
+pub mod RecordStart
 pub mod Shape
-pub mod Start

@@ -2,7 +2,7 @@
 ghost use mathlib.Core.Path.{_≡_};
 ghost use Prim.Native.Nat.{_≤_};
 ghost use lib.ListN.{length};
-ghost use Rattle.probe.specs.Start.{lineStart, recordStart};
+ghost use Rattle.probe.specs.RecordStart.{lineStart, recordStart};
 
 // The start of the record that a place lies in, by line feeds alone.
 pub fn record_start(s: &[u8], place: usize) -> usize

@@ -28,15 +28,15 @@ use Rattle.iter.specs.Items.{nameIn, Item}
 use Rattle.iter.specs.Stands.{Stands}
 use Rattle.iter.specs.Step.{more, stepBy, stepOf, stepAnswer}
 use Rattle.iter.proofs.Each.{each}
-use Rattle.search.specs.declared.Found.{Found}
-use Rattle.search.specs.declared.Found.the-variants.{Hit, Miss}
+use Rattle.search.specs.declared.Halved.{Halved}
+use Rattle.search.specs.declared.Halved.the-variants.{Hit, Miss}
 use Rattle.find.specs.declared.lookup.Lookup.the-variants as lookup
 use Rattle.find.specs.declared.lookup.LookupAnswer.the-variants as found
 use Rattle.ask.specs.declared.Told.the-variants as told
 use Rattle.ask.specs.declared.AskAnswer.the-variants as asked
 use Rattle.search.specs.Search.{searchOf}
 use Rattle.find.specs.Lookup.{readAt, lookupBy, lookupOf, lookupAnswer}
-use Rattle.find.specs.Listing.{placeOf}
+use Rattle.find.specs.PrefixStart.{placeOf}
 use Rattle.ask.specs.Ask.{askOf, askAnswer}
 use Rattle.find.proofs.Places.{search-inside}
 use Rattle.ask.proofs.Trusted.{trusted}
@@ -47,12 +47,12 @@ abbrev Lies : ℕ → List ℕ → ℕ → Record → Type 0
 Lies n s place r = (place ≤ length s) × (recordOf paper n (drop place s) ≡ reading.Good r)
 
 near : (n : ℕ) (s : List ℕ) (place : ℕ) (r : Record) → length s ≤ 1073741824 → Lies n s place r → Near place r
-near n s place r small x = (omega (arith, x .0), go (f .object))
+near n s place r small x = (omega (arith, x .0), go (f .peeled))
   where
     f : Fits paper n (drop place s) r
     f = fits paper n (drop place s) r (x .1)
 
-    go : (r .object ≡ 0) ⊎ ((suc n + r .name < r .object) × (r .object + n < r .size)) → r .object ≤ 1073741824
+    go : (r .peeled ≡ 0) ⊎ ((suc n + r .«name_len» < r .peeled) × (r .peeled + n < r .size)) → r .peeled ≤ 1073741824
     go (inl z) = omega arith
     go (inr z) = omega (arith, z .1, f .inside, length-drop place s)
 
@@ -101,7 +101,7 @@ module _ (n : ℕ) (s name : List ℕ) {place : ℕ} {r : Record} where
   read-at at (reading.Good q) e = (cc, cc)
   read-at at (reading.Bad f) e = absurd (let z : _≡_ {A = ℕ} 0 1 = cc in omega arith)
 
-  lookup-by : (found : Found) → placeOf found ≤ length s → lookupBy paper n s found ≡ lookup.Charted place r → Lies n s place r
+  lookup-by : (found : Halved) → placeOf found ≤ length s → lookupBy paper n s found ≡ lookup.Charted place r → Lies n s place r
   lookup-by (Hit at) inside e =
       let (same, good) = read-at at (recordOf paper n (drop at s)) e in
       (rw same at inside, rw same at good)

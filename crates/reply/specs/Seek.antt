@@ -5,14 +5,14 @@ use Rattle.decode.specs.declared.reference.Record.{Record}
 use Rattle.find.specs.declared.lookup.Lookup.the-variants.{Charted, BadRecord, Unsure, Absent, BadName}
 use Rattle.find.specs.declared.lookup.LookupAnswer.{LookupAnswer}
 use Rattle.find.specs.declared.lookup.LookupAnswer.the-variants.{Done, UnknownKind, TooLarge}
-use Rattle.find.specs.declared.listing.Listing.the-variants.{From, BadHeader}
-use Rattle.find.specs.declared.listing.ListingAnswer.{ListingAnswer}
-use Rattle.find.specs.declared.listing.ListingAnswer.the-variants as listing
+use Rattle.find.specs.declared.prefix_start.PrefixStart.the-variants.{From, BadHeader}
+use Rattle.find.specs.declared.prefix_start.PrefixStartAnswer.{PrefixStartAnswer}
+use Rattle.find.specs.declared.prefix_start.PrefixStartAnswer.the-variants as prefix
 use Rattle.ask.specs.declared.Told.the-variants as told
 use Rattle.ask.specs.declared.AskAnswer.{AskAnswer}
 use Rattle.ask.specs.declared.AskAnswer.the-variants as ask
 use Rattle.find.specs.Lookup.{lookupNumber}
-use Rattle.find.specs.Listing.{listingNumber}
+use Rattle.find.specs.PrefixStart.{prefixStartNumber}
 use Rattle.ask.specs.Ask.{askNumber}
 use Rattle.reply.specs.declared.seek.LookupReply.{LookupReply}
 use Rattle.reply.specs.declared.seek.PrefixReply.{PrefixReply}
@@ -33,8 +33,8 @@ lookupBeside number kind (Done (Charted place r)) =
       number = number;
       place = place;
       «name_at» = nameAt kind place;
-      «name_len» = r .name;
-      «peeled_at» = peeledAt place (r .object);
+      «name_len» = r .«name_len»;
+      «peeled_at» = peeledAt place (r .peeled);
     }
 lookupBeside number kind (Done (BadRecord place f)) = lookupBare number place
 lookupBeside number kind (Done Unsure) = lookupBare number 0
@@ -56,14 +56,14 @@ abbrev pub prefixGives : ℕ → ℕ → ℕ → ℕ → ℕ → PrefixReply
 prefixGives number place item textAt textLen =
     record { number = number; place = place; item = item; «text_at» = textAt; «text_len» = textLen }
 
-abbrev pub prefixBeside : ℕ → ListingAnswer → PrefixReply
-prefixBeside number (listing.Done (From place item)) = prefixGives number place item 0 0
-prefixBeside number (listing.Done (BadHeader place text)) = prefixGives number 0 0 place text
-prefixBeside number listing.UnknownKind = prefixGives number 0 0 0 0
-prefixBeside number listing.TooLarge = prefixGives number 0 0 0 0
+abbrev pub prefixBeside : ℕ → PrefixStartAnswer → PrefixReply
+prefixBeside number (prefix.Done (From place item)) = prefixGives number place item 0 0
+prefixBeside number (prefix.Done (BadHeader place text)) = prefixGives number 0 0 place text
+prefixBeside number prefix.UnknownKind = prefixGives number 0 0 0 0
+prefixBeside number prefix.TooLarge = prefixGives number 0 0 0 0
 
-abbrev pub prefixReply : ListingAnswer → PrefixReply
-prefixReply a = prefixBeside (listingNumber a) a
+abbrev pub prefixReply : PrefixStartAnswer → PrefixReply
+prefixReply a = prefixBeside (prefixStartNumber a) a
 
 -- ---- the lookup that can be trusted on any bytes
 
@@ -81,8 +81,8 @@ askBeside number kind (ask.Done (told.Charted place r)) =
       number = number;
       place = place;
       «name_at» = nameAt kind place;
-      «name_len» = r .name;
-      «peeled_at» = peeledAt place (r .object);
+      «name_len» = r .«name_len»;
+      «peeled_at» = peeledAt place (r .peeled);
       «text_len» = 0;
     }
 askBeside number kind (ask.Done told.Absent) = askBare number 0 0

@@ -15,7 +15,7 @@ use Rattle.header.specs.declared.Peeled.the-variants.{Unspecified, Partial, Ful
 
 -- a record that starts at a place, and its peeled id, lie in bytes under the size limit, so that their places fit
 abbrev pub Near : ℕ → Record → Type 0
-Near place r = (place ≤ 1073741824) × (r .object ≤ 1073741824)
+Near place r = (place ≤ 1073741824) × (r .peeled ≤ 1073741824)
 
 -- the digits of an id; where the kind is unknown there are none
 abbrev pub idLen : IdKind → ℕ
@@ -28,7 +28,7 @@ nameAt kind place = place + idLen (digitsOf kind) + 1
 
 -- the peeled id stands at a place of the record that is not 0, if it has one
 unfoldable pub peeledAt : ℕ → ℕ → ℕ
-peeledAt place object = if (eqb object 0) 0 (place + object)
+peeledAt place peeled = if (eqb peeled 0) 0 (place + peeled)
 
 -- "Beside the number, check and merge give the item's place in the lent file for 4 and 6, .. and 2 its text; nothing else is given with a
 -- refusal."

@@ -63,8 +63,8 @@ stepBeside number kind place (step.Done (Good r next item)) =
       next = next;
       item = item;
       «name_at» = nameAt kind place;
-      «name_len» = r .name;
-      «peeled_at» = peeledAt place (r .object);
+      «name_len» = r .«name_len»;
+      «peeled_at» = peeledAt place (r .peeled);
       error = 0;
       «text_len» = 0;
     }

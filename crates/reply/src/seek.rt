@@ -1,15 +1,15 @@
 // Lookup of one name, and where the listing of a prefix starts.
 ghost use mathlib.Core.Path.{_≡_};
 ghost use Rattle.find.specs.Lookup.{lookupAnswer};
-ghost use Rattle.find.specs.Listing.{listingAnswer};
+ghost use Rattle.find.specs.PrefixStart.{prefixStartAnswer};
 ghost use Rattle.ask.specs.Ask.{askAnswer};
 ghost use Rattle.reply.specs.Seek.{lookupReply, LookupNear, lookupBare, prefixReply, prefixGives, askReply, AskNear, askBare};
 use ask::AskAnswer;
 use ask::Told;
-use find::listing::Listing;
-use find::listing::ListingAnswer;
 use find::lookup::Lookup;
 use find::lookup::LookupAnswer;
+use find::prefix_start::PrefixStart;
+use find::prefix_start::PrefixStartAnswer;
 
 #[repr(C)]
 pub struct LookupReply {
@@ -38,8 +38,8 @@ fn lookup_told(kind: u32, answer: LookupAnswer) -> LookupReply
                 number: 0,
                 place,
                 name_at: crate::told::name_at(kind, place),
-                name_len: found.name,
-                peeled_at: crate::told::peeled_at(place, found.object),
+                name_len: found.name_len,
+                peeled_at: crate::told::peeled_at(place, found.peeled),
             },
             Lookup::BadRecord { place, fault } => {
                 lookup_bare(crate::told::fault_number(fault), place)
@@ -78,21 +78,21 @@ pub struct PrefixReply {
 }
 
 pub fn prefix_reply(kind: u32, body: &[u8], prefix: &[u8]) -> PrefixReply
-    ensures { λ r. ⌜ r ≡ prefixReply (listingAnswer kind (now (body .entry)) (now (prefix .entry))) ⌝ }
+    ensures { λ r. ⌜ r ≡ prefixReply (prefixStartAnswer kind (now (body .entry)) (now (prefix .entry))) ⌝ }
 {
-    prefix_told(find::listing::list(kind, body, prefix))
+    prefix_told(find::prefix_start::begin(kind, body, prefix))
 }
 
-fn prefix_told(answer: ListingAnswer) -> PrefixReply
+fn prefix_told(answer: PrefixStartAnswer) -> PrefixReply
     ensures { λ r. ⌜ r ≡ prefixReply answer ⌝ }
 {
     match answer {
-        ListingAnswer::Done(said) => match said {
-            Listing::From { place, item } => prefix_gives(0, place, item, 0, 0),
-            Listing::BadHeader { place, text } => prefix_gives(2, 0, 0, place, text),
+        PrefixStartAnswer::Done(said) => match said {
+            PrefixStart::From { place, item } => prefix_gives(0, place, item, 0, 0),
+            PrefixStart::BadHeader { place, text } => prefix_gives(2, 0, 0, place, text),
         },
-        ListingAnswer::UnknownKind => prefix_gives(1, 0, 0, 0, 0),
-        ListingAnswer::TooLarge => prefix_gives(17, 0, 0, 0, 0),
+        PrefixStartAnswer::UnknownKind => prefix_gives(1, 0, 0, 0, 0),
+        PrefixStartAnswer::TooLarge => prefix_gives(17, 0, 0, 0, 0),
     }
 }
 
@@ -137,8 +137,8 @@ fn ask_told(kind: u32, answer: AskAnswer) -> AskReply
                 number: 0,
                 place,
                 name_at: crate::told::name_at(kind, place),
-                name_len: found.name,
-                peeled_at: crate::told::peeled_at(place, found.object),
+                name_len: found.name_len,
+                peeled_at: crate::told::peeled_at(place, found.peeled),
                 text_len: 0,
             },
             Told::Absent => ask_bare(5, 0, 0),

@@ -21,14 +21,14 @@ pub(crate) fn name_at(kind: u32, place: usize) -> usize
 }
 
 // Where the peeled id stands, or 0 where there is none.
-pub(crate) fn peeled_at(place: usize, object: usize) -> usize
-    requires { ⌜ (place ≤ 1073741824) × (object ≤ 1073741824) ⌝ }
-    ensures { λ r. ⌜ r ≡ peeledAt place object ⌝ }
+pub(crate) fn peeled_at(place: usize, peeled: usize) -> usize
+    requires { ⌜ (place ≤ 1073741824) × (peeled ≤ 1073741824) ⌝ }
+    ensures { λ r. ⌜ r ≡ peeledAt place peeled ⌝ }
 {
-    if object == 0 {
+    if peeled == 0 {
         return 0;
     }
-    place + object
+    place + peeled
 }
 
 // A refusal's number and what stands beside it: a place, or the length of a text; else 0.

@@ -100,25 +100,32 @@ fn step_told(kind: u32, place: usize, answer: StepAnswer) -> StepReply
 {
     match answer {
         StepAnswer::Done(said) => match said {
-            Step::End { next, item } => step_bare(0, next, item),
-            Step::Good { found, next, item } => StepReply {
+            Step::End {
+                next,
+                next_item: item,
+            } => step_bare(0, next, item),
+            Step::Good {
+                found,
+                next,
+                next_item: item,
+            } => StepReply {
                 number: 0,
                 what: 1,
                 start: place,
                 next,
                 item,
                 name_at: crate::told::name_at(kind, place),
-                name_len: found.name,
-                peeled_at: crate::told::peeled_at(place, found.object),
+                name_len: found.name_len,
+                peeled_at: crate::told::peeled_at(place, found.peeled),
                 error: 0,
                 text_len: 0,
             },
             Step::Error {
                 fault: _,
-                number,
+                item: number,
                 text,
                 next,
-                item,
+                next_item: item,
             } => StepReply {
                 number: 0,
                 what: 2,

@@ -7,8 +7,8 @@ use lib.Dec.{ltb}
 use borrow.Author.Tests.{lt-ltb, le-ltb}
 use Rattle.compare.specs.declared.order.Order.{Order}
 use Rattle.compare.specs.declared.order.Order.the-variants.{Less, Equal, Greater}
-use Rattle.search.specs.declared.Found.{Found}
-use Rattle.search.specs.declared.Found.the-variants.{Hit, Miss}
+use Rattle.search.specs.declared.Halved.{Halved}
+use Rattle.search.specs.declared.Halved.the-variants.{Hit, Miss}
 use Rattle.search.specs.Search.{middle, halve}
 
 module _ (order : ℕ → Order) (failure : ℕ → Bool) where

@@ -11,9 +11,9 @@ use Rattle.compare.specs.Order.{orderOf}
 use Rattle.probe.specs.declared.shape.Shape.{Shape}
 use Rattle.probe.specs.declared.shape.Shape.the-variants.{Name, Fails}
 use Rattle.probe.specs.Shape.{shapeOf}
-use Rattle.probe.specs.Start.{recordStart}
-use Rattle.search.specs.declared.Found.{Found}
-use Rattle.search.specs.declared.Found.the-variants.{Hit, Miss}
+use Rattle.probe.specs.RecordStart.{recordStart}
+use Rattle.search.specs.declared.Halved.{Halved}
+use Rattle.search.specs.declared.Halved.the-variants.{Hit, Miss}
 use Rattle.search.specs.declared.Probed.{Probed}
 
 -- ---- what a probe reads
@@ -43,7 +43,7 @@ middle low high = low + (high - low) / 2
 -- what the probes say is given: at each place how its name stands to the wanted one, and whether its shape failed.
 -- "Smaller name: low becomes probe + 1. Greater: high becomes probe." The gap shrinks at each turn, so as many turns as it is long are enough
 module _ (order : ℕ → Order) (failure : ℕ → Bool) where
-  unfoldable pub halve : ℕ → ℕ → ℕ → Bool → Found
+  unfoldable pub halve : ℕ → ℕ → ℕ → Bool → Halved
   halve zero low high failed = Miss low failed
   halve (suc turns) low high failed =
       let m = middle low high in
@@ -85,12 +85,12 @@ module _ (byte : Classes) (n : ℕ) (s wanted : List ℕ) where
   failureAt place = probedAt place .failed
 
   -- the place told is a record start
-  abbrev pub placed : Found → Found
+  abbrev pub placed : Halved → Halved
   placed (Hit m) = Hit (recordStart s m)
   placed (Miss low failed) = Miss (recordStart s low) failed
 
   -- "low 0, high the length"
-  unfoldable pub searchOf : Found
+  unfoldable pub searchOf : Halved
   searchOf = placed (halve orderAt failureAt (length s) 0 (length s) false)
 
   unfoldable pub probesOf : ℕ

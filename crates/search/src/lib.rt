@@ -5,7 +5,7 @@ ghost use Rattle.search.specs.Search.{searchOf, probedOf};
 use compare::order::Order;
 use probe::shape::Shape;
 
-pub enum Found {
+pub enum Halved {
     // The start of the record whose name is the wanted one.
     Hit(usize),
     // Where the search ended, and whether a probe met a shape that fails.
@@ -19,7 +19,7 @@ pub struct Probed {
 }
 
 // The search for any bytes in a body, with ids of n digits and a table of byte classes.
-pub fn search(t: &[u8; 256], n: usize, s: &[u8], wanted: &[u8]) -> Found
+pub fn search(t: &[u8; 256], n: usize, s: &[u8], wanted: &[u8]) -> Halved
     ensures { λ r. ⌜ r ≡ searchOf (classesOf (now (t .entry))) n (now (s .entry)) (now (wanted .entry)) ⌝ }
 {
     let mut low = 0;
@@ -27,7 +27,7 @@ pub fn search(t: &[u8; 256], n: usize, s: &[u8], wanted: &[u8]) -> Found
     let mut failed = false;
     loop {
         if high <= low {
-            break Found::Miss {
+            break Halved::Miss {
                 place: probe::start::record_start(s, low),
                 failed,
             };
@@ -42,7 +42,7 @@ pub fn search(t: &[u8; 256], n: usize, s: &[u8], wanted: &[u8]) -> Found
                 low = middle + 1;
             }
             Order::Equal => {
-                break Found::Hit(start);
+                break Halved::Hit(start);
             }
             Order::Greater => {
                 high = middle;

@@ -8,7 +8,7 @@ use Rattle.places.specs.declared.name.Layout.the-variants.{Edit, Record}
 use Rattle.sort.specs.declared.twin.Twin.the-variants.{At, Nothing}
 use Rattle.length.specs.Length.{lengthAt}
 use Rattle.parts.specs.Parts.{editName}
-use Rattle.places.specs.Name.{textOf, nameOf}
+use Rattle.places.specs.Name.{textOf, standingName}
 use Rattle.places.specs.Order.{before, comesFirst}
 use Rattle.sort.specs.Sorted.{sorted}
 use Rattle.sort.specs.Twin.{firstTwin}
@@ -18,16 +18,16 @@ use Rattle.sort.specs.Twin.{firstTwin}
 edits : List ℕ
 edits = 1 ∷ 1 ∷ 98 ∷ 1 ∷ 1 ∷ 97 ∷ 1 ∷ 2 ∷ 97 ∷ 98 ∷ 2 ∷ 1 ∷ 97 ∷ 1 ∷ 0 ∷ []
 
-the-name-of-an-edit : nameOf Edit edits 6 ≡ 97 ∷ 98 ∷ []
+the-name-of-an-edit : standingName Edit edits 6 ≡ 97 ∷ 98 ∷ []
 unfolding edits lengthAt editName
 the-name-of-an-edit = refl
 
-no-name-beyond-the-end : nameOf Edit edits 4000000000 ≡ []
+no-name-beyond-the-end : standingName Edit edits 4000000000 ≡ []
 unfolding edits lengthAt editName
 no-name-beyond-the-end = refl
 
 -- a second group counts 128 bytes each: 130 is 2 and 1
-a-long-name : nameOf Edit (1 ∷ 130 ∷ 1 ∷ replicate 200 97) 0 ≡ replicate 130 97
+a-long-name : standingName Edit (1 ∷ 130 ∷ 1 ∷ replicate 200 97) 0 ≡ replicate 130 97
 unfolding lengthAt editName
 a-long-name = refl
 
@@ -35,11 +35,11 @@ edits-in-order : sorted (comesFirst Edit edits) (10 ∷ 0 ∷ 3 ∷ 13 ∷ 6 ∷
 unfolding edits lengthAt editName before sorted
 edits-in-order = refl
 
-the-second-of-two : firstTwin (nameOf Edit edits) (13 ∷ 3 ∷ 10 ∷ 6 ∷ 0 ∷ []) ≡ At 10
+the-second-of-two : firstTwin (standingName Edit edits) (13 ∷ 3 ∷ 10 ∷ 6 ∷ 0 ∷ []) ≡ At 10
 unfolding edits lengthAt editName firstTwin
 the-second-of-two = refl
 
-no-neighbours-alike : firstTwin (nameOf Edit edits) (3 ∷ 6 ∷ 10 ∷ []) ≡ Nothing
+no-neighbours-alike : firstTwin (standingName Edit edits) (3 ∷ 6 ∷ 10 ∷ []) ≡ Nothing
 unfolding edits lengthAt editName firstTwin
 no-neighbours-alike = refl
 
@@ -48,7 +48,7 @@ no-neighbours-alike = refl
 records : List ℕ
 records = 48 ∷ 48 ∷ 32 ∷ 98 ∷ 10 ∷ 49 ∷ 49 ∷ 32 ∷ 97 ∷ 13 ∷ 10 ∷ 50 ∷ 50 ∷ 32 ∷ 97 ∷ 98 ∷ []
 
-the-name-of-a-record : nameOf (Record 2) records 5 ≡ 97 ∷ []
+the-name-of-a-record : standingName (Record 2) records 5 ≡ 97 ∷ []
 unfolding records textOf isLineEnd
 the-name-of-a-record = refl
 

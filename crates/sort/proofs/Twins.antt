@@ -12,7 +12,7 @@ use Rattle.compare.specs.declared.order.Order.{Order}
 use Rattle.compare.specs.declared.order.Order.the-variants.{Less, Equal, Greater}
 use Rattle.compare.proofs.Orders.{order-refl, order-equal, turned, order-turned, less-trans}
 use Rattle.sort.specs.declared.twin.Twin.the-variants.{At, Nothing}
-use Rattle.places.specs.Order.{isEqual, same, before}
+use Rattle.places.specs.Order.{isEqual, sameName, before}
 use Rattle.places.specs.Laws.{Ascending, NamesRise, AllDifferent, HasTwin}
 use Rattle.sort.specs.Twin.{twinBehind, firstTwin}
 use Rattle.sort.proofs.Orders.{NotAfter}
@@ -33,7 +33,7 @@ module _ (name : ℕ → List ℕ) where
 
   pub twin-at : (l : List ℕ) (i : ℕ) → 0 < i → i < length l
       → firstTwin name (drop (i - 1) l)
-      ≡ if (same (name (getD l (i - 1) 0)) (name (getD l i 0))) (At (getD l i 0)) (firstTwin name (drop i l))
+      ≡ if (sameName (name (getD l (i - 1) 0)) (name (getD l i 0))) (At (getD l i 0)) (firstTwin name (drop i l))
   unfolding firstTwin
   twin-at l zero h k = absurd (omega arith)
   twin-at l (suc i) h k =

@@ -5,7 +5,7 @@ use Prim.Native.Nat.{ℕ}
 use Rattle.places.specs.declared.name.Layout.{Layout}
 use Rattle.sort.specs.declared.twin.Twin.the-variants.{At, Nothing}
 use Rattle.places.specs.Laws.{StrictOrder, InOrder, NamesRise, AllDifferent, HasTwin}
-use Rattle.places.specs.Name.{nameOf}
+use Rattle.places.specs.Name.{standingName}
 use Rattle.places.specs.Order.{comesFirst}
 use Rattle.sort.specs.Sorted.{sorted}
 use Rattle.sort.specs.Twin.{firstTwin}
@@ -26,16 +26,16 @@ NoOtherOrder = (layout : Layout) (s l a : List ℕ) → InOrder (comesFirst layo
 abbrev pub NoTwinNamesRise : Type 0
 NoTwinNamesRise =
     (layout : Layout) (s l : List ℕ)
-    → firstTwin (nameOf layout s) (sorted (comesFirst layout s) l) ≡ Nothing
-    → NamesRise (nameOf layout s) (sorted (comesFirst layout s) l)
+    → firstTwin (standingName layout s) (sorted (comesFirst layout s) l) ≡ Nothing
+    → NamesRise (standingName layout s) (sorted (comesFirst layout s) l)
 
 -- and all its names are different
 abbrev pub NoTwinAllDifferent : Type 0
 NoTwinAllDifferent =
     (layout : Layout) (s l : List ℕ)
-    → firstTwin (nameOf layout s) (sorted (comesFirst layout s) l) ≡ Nothing
-    → AllDifferent (nameOf layout s) (sorted (comesFirst layout s) l)
+    → firstTwin (standingName layout s) (sorted (comesFirst layout s) l) ≡ Nothing
+    → AllDifferent (standingName layout s) (sorted (comesFirst layout s) l)
 
 -- where any list has a first twin, that is the twin of the entry before it
 abbrev pub TwinIsTwin : Type 0
-TwinIsTwin = (layout : Layout) (s l : List ℕ) (p : ℕ) → firstTwin (nameOf layout s) l ≡ At p → HasTwin (nameOf layout s) l p
+TwinIsTwin = (layout : Layout) (s l : List ℕ) (p : ℕ) → firstTwin (standingName layout s) l ≡ At p → HasTwin (standingName layout s) l p

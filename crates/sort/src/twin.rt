@@ -1,6 +1,6 @@
 // Neighbours in an index that have the same name.
 ghost use mathlib.Core.Path.{_≡_};
-ghost use Rattle.places.specs.Name.{nameOf};
+ghost use Rattle.places.specs.Name.{standingName};
 ghost use Rattle.sort.specs.Twin.{firstTwin};
 use places::name::Layout;
 
@@ -12,7 +12,7 @@ pub enum Twin {
 
 // The first twin in an index. In a sorted one there is a twin wherever two names are the same.
 pub fn first_twin(index: &[u32], s: &[u8], layout: Layout) -> Twin
-    ensures { λ r. ⌜ r ≡ firstTwin (nameOf layout (now (s .entry))) (now (index .entry)) ⌝ }
+    ensures { λ r. ⌜ r ≡ firstTwin (standingName layout (now (s .entry))) (now (index .entry)) ⌝ }
 {
     let mut i = 1;
     while i < index.len() {

@@ -24,7 +24,7 @@ pub fn begin(kind: u32, file: &[u8]) -> StartAnswer
     match parse::limit::admit(kind, file.len(), 0) {
         Admission::Digits(_) => {
             let t = class::table();
-            StartAnswer::Done(begin_by(&t, file))
+            StartAnswer::Done(begin_using(&t, file))
         }
         Admission::UnknownKind => StartAnswer::UnknownKind,
         Admission::TooLarge => StartAnswer::TooLarge,
@@ -32,7 +32,7 @@ pub fn begin(kind: u32, file: &[u8]) -> StartAnswer
 }
 
 // The same by a table of byte classes.
-pub fn begin_by(t: &[u8; 256], file: &[u8]) -> Start
+pub fn begin_using(t: &[u8; 256], file: &[u8]) -> Start
     ensures { λ r. ⌜ r ≡ startOf (classesOf (now (t .entry))) (now (file .entry)) ⌝ }
 {
     match header::open(t, file) {

@@ -16,8 +16,8 @@ enum-known-n c = search needs
 table-requires : tie.Need-table-requires
 table-requires c κs = search needs
 
-ask-by-requires : tie.Need-ask-by-requires
-ask-by-requires c κs = search needs
+ask-using-requires : tie.Need-ask-using-requires
+ask-using-requires c κs = search needs
 
 enum-told : tie.Need-enum-told
 enum-told c = search needs
@@ -32,7 +32,7 @@ returns c =
     let k = t .before in
     let a = k .before .before .before .before .before .before .args in
     rw (sym (k .before .before .before .admit .ensures) ∙ k .before .n .given .1)
-    (ap Done (c .ask-by .ensures ∙ by-paper (λ byte. askOf byte (k .before .n .given .0 .0) (a .file .now) (a .name .now)) (t .table .ensures)))
+    (ap Done (c .ask-using .ensures ∙ by-paper (λ byte. askOf byte (k .before .n .given .0 .0) (a .file .now) (a .name .now)) (t .table .ensures)))
 
 returns-2 : tie.Need-returns-2
 unfolding askAnswer
@@ -49,7 +49,7 @@ ask-spec =
     admit-requires
     enum-known-n
     table-requires
-    ask-by-requires
+    ask-using-requires
     enum-told
     enum-told-2
     returns

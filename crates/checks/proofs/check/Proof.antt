@@ -16,8 +16,8 @@ enum-known-n c = search needs
 table-requires : tie.Need-table-requires
 table-requires c κs = search needs
 
-check-by-requires : tie.Need-check-by-requires
-check-by-requires c κs = search needs
+check-using-requires : tie.Need-check-using-requires
+check-using-requires c κs = search needs
 
 enum-told : tie.Need-enum-told
 enum-told c = search needs
@@ -32,7 +32,7 @@ returns c =
     let k = t .before in
     let a = k .before .before .before .before .before .args in
     rw (sym (k .before .before .before .admit .ensures) ∙ k .before .n .given .1)
-    (ap Done (c .check-by .ensures ∙ by-paper (λ byte. checkOf byte (k .before .n .given .0 .0) (a .file .now)) (t .table .ensures)))
+    (ap Done (c .check-using .ensures ∙ by-paper (λ byte. checkOf byte (k .before .n .given .0 .0) (a .file .now)) (t .table .ensures)))
 
 returns-2 : tie.Need-returns-2
 unfolding checkAnswer
@@ -49,7 +49,7 @@ check-spec =
     admit-requires
     enum-known-n
     table-requires
-    check-by-requires
+    check-using-requires
     enum-told
     enum-told-2
     returns

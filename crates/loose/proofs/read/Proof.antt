@@ -16,8 +16,8 @@ enum-known-n c = search needs
 table-requires : tie.Need-table-requires
 table-requires c κs = search needs
 
-read-by-requires : tie.Need-read-by-requires
-read-by-requires c κs = search needs
+read-using-requires : tie.Need-read-using-requires
+read-using-requires c κs = search needs
 
 enum-told : tie.Need-enum-told
 enum-told c = search needs
@@ -32,7 +32,7 @@ returns c =
     let k = t .before in
     let a = k .before .before .before .before .before .args in
     rw (sym (k .before .before .before .admit .ensures) ∙ k .before .n .given .1)
-    (ap Done (c .read-by .ensures ∙ by-paper (λ byte. looseOf byte (k .before .n .given .0 .0) (a .content .now)) (t .table .ensures)))
+    (ap Done (c .read-using .ensures ∙ by-paper (λ byte. looseOf byte (k .before .n .given .0 .0) (a .content .now)) (t .table .ensures)))
 
 returns-2 : tie.Need-returns-2
 unfolding looseAnswer
@@ -49,7 +49,7 @@ read-spec =
     admit-requires
     enum-known-n
     table-requires
-    read-by-requires
+    read-using-requires
     enum-told
     enum-told-2
     returns

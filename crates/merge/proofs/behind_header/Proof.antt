@@ -8,7 +8,7 @@ use Rattle.class.proofs.Classes.{by-paper}
 use Rattle.checks.specs.Check.{judgeBody}
 use Rattle.iter.specs.Items.{items}
 use Rattle.lines.specs.Lines.{Entry}
-use Rattle.merge.specs.Entry.{Edit, entriesOf, editsAt}
+use Rattle.merge.specs.Entry.{Override, entriesOf, editsAt}
 use Rattle.put.specs.Put.{over}
 use Rattle.merge.specs.Merge.{judgedBy, outputBy}
 use Rattle.runs.specs.Runs.{surveyed, marksOf}
@@ -28,7 +28,7 @@ module _ (v : tie.After-survey) where
   abbrev olds : List Entry
   olds = entriesOf (start .args .n) (items paper (start .args .n) (drop (start .args .body) (start .args .old .now)))
 
-  abbrev edits : List Edit
+  abbrev edits : List Override
   edits = editsAt (start .args .n) (start .args .list .now) (start .args .index .now)
 
   abbrev room : ℕ

@@ -26,8 +26,8 @@ enum-known-n c = search needs
 table-requires : tie.Need-table-requires
 table-requires c κs = search needs
 
-merge-by-requires : tie.Need-merge-by-requires
-merge-by-requires c κs =
+merge-using-requires : tie.Need-merge-using-requires
+merge-using-requires c κs =
     let k = c .before .before .before .before .before in
     let a = k .before .before in
     let s = start a .args in
@@ -55,7 +55,7 @@ returns c =
     let s = start (k .before .before) .args in
     let n = k .n .given .0 .0 in
     let new = newFile (oldEntries paper n (s .old .now)) (editsInOrder paper n (s .old .now) (s .list .now)) in
-    (rw is (m .merge-by .ensures .0), (rw is (m .merge-by .ensures .1 .0), rw is (m .merge-by .ensures .1 .1 ∙ ap (outputBy new (s .out .now)) (m .merge-by .ensures .0))))
+    (rw is (m .merge-using .ensures .0), (rw is (m .merge-using .ensures .1 .0), rw is (m .merge-using .ensures .1 .1 ∙ ap (outputBy new (s .out .now)) (m .merge-using .ensures .0))))
 
 returns-2 : tie.Need-returns-2
 unfolding mergeAnswer indexAnswer outputAfter
@@ -76,7 +76,7 @@ merge-spec =
     admit-requires
     enum-known-n
     table-requires
-    merge-by-requires
+    merge-using-requires
     enum-told
     enum-told-2
     same-length

@@ -5,7 +5,7 @@ use lib.ListN.{length}
 use Rattle.class.specs.Class.{paper}
 use Rattle.class.proofs.Classes.{by-paper}
 use Rattle.header.specs.Header.{headerOf}
-use Rattle.merge.specs.Entry.{Edit, editsAt}
+use Rattle.merge.specs.Entry.{Override, editsAt}
 use Rattle.merge.specs.Merge.{newFile, outputBy}
 use Rattle.merge.proofs.Ready.{bad-header, old-entries, good-header}
 use borrow.Author.Needs.{needs}
@@ -17,7 +17,7 @@ module _ (o : tie.After-open) where
   abbrev start : tie.Start
   start = o .before .before .before .before .before
 
-  abbrev edits : List Edit
+  abbrev edits : List Override
   edits = editsAt (start .args .n) (start .args .list .now) (start .args .index .now)
 
   header-is : headerOf paper (start .args .old .now) ≡ o .«open» .result

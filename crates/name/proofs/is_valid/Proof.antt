@@ -10,14 +10,14 @@ use Rattle.name.proofs.is_valid.Tie as tie
 table-requires : tie.Need-table-requires
 table-requires c κs = search needs
 
-is-valid-by-requires : tie.Need-is-valid-by-requires
-is-valid-by-requires c κs = search needs
+is-valid-using-requires : tie.Need-is-valid-using-requires
+is-valid-using-requires c κs = search needs
 
 returns : tie.Need-returns
 returns c =
     let made = c .before .before in
     let s = made .before .before .args .s .now in
-    c .is-valid-by .ensures ∙ ap (λ (byte : Classes). validName byte s) (ap classesOf (made .table .ensures) ∙ table-classes)
+    c .is-valid-using .ensures ∙ ap (λ (byte : Classes). validName byte s) (ap classesOf (made .table .ensures) ∙ table-classes)
 
 pub is-valid-spec : {M : Type 1} → statement M
-is-valid-spec = tie.close (tie.spec table-requires is-valid-by-requires returns)
+is-valid-spec = tie.close (tie.spec table-requires is-valid-using-requires returns)

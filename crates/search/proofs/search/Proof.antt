@@ -6,8 +6,8 @@ use lib.ListN.{length, drop}
 use Rattle.compare.specs.declared.order.Order.{Order}
 use Rattle.class.specs.Class.{classesOf}
 use Rattle.parse.proofs.Slices.{rest-is}
-use Rattle.search.specs.declared.Found.{Found}
-use Rattle.search.specs.declared.Found.the-variants.{Hit, Miss}
+use Rattle.search.specs.declared.Halved.{Halved}
+use Rattle.search.specs.declared.Halved.the-variants.{Hit, Miss}
 use Rattle.search.specs.declared.Probed.{Probed}
 use Rattle.search.specs.Search.{middle, probedOf, probedAt, orderAt, failureAt, placed, searchOf}
 use Rattle.search.proofs.Halving.{Going, at-first, ended, found-it, to-right, to-left}
@@ -63,7 +63,7 @@ module _ (l : tie.At-loop Inv-loop μ-loop) where
   abbrev failure : ℕ → Bool
   failure place = probes place .failed
 
-  abbrev starts : Found → Found
+  abbrev starts : Halved → Halved
   starts = let a = l .before .before .before .args in placed (classesOf (a .t .now)) (a .n) (a .s .now) (a .wanted .now)
 
 -- the record that the middle lies in is probed

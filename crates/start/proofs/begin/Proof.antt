@@ -16,8 +16,8 @@ enum-told c = search needs
 table-requires : tie.Need-table-requires
 table-requires c κs = search needs
 
-begin-by-requires : tie.Need-begin-by-requires
-begin-by-requires c κs = search needs
+begin-using-requires : tie.Need-begin-using-requires
+begin-using-requires c κs = search needs
 
 enum-told-2 : tie.Need-enum-told-2
 enum-told-2 c = search needs
@@ -32,7 +32,7 @@ returns c =
     let k = t .before in
     let a = k .before .before .before .before .args in
     rw (sym (k .before .before .admit .ensures) ∙ k .enum-told .given .1)
-    (ap Done (c .begin-by .ensures ∙ by-paper (λ byte. startOf byte (a .file .now)) (t .table .ensures)))
+    (ap Done (c .begin-using .ensures ∙ by-paper (λ byte. startOf byte (a .file .now)) (t .table .ensures)))
 
 returns-2 : tie.Need-returns-2
 unfolding startAnswer
@@ -49,7 +49,7 @@ begin-spec =
     admit-requires
     enum-told
     table-requires
-    begin-by-requires
+    begin-using-requires
     enum-told-2
     enum-told-3
     returns

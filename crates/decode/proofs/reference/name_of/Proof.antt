@@ -21,7 +21,7 @@ returns : tie.Need-returns
 returns c =
     let a = c .before .before .args in
     let beyond : length (a .s .now) ≤ a .n + 1 = omega arith in
-    sym (ap (take (a .found .name)) (drop-of-length-le (a .s .now) beyond) ∙ take-nil (a .found .name))
+    sym (ap (take (a .found .«name_len»)) (drop-of-length-le (a .s .now) beyond) ∙ take-nil (a .found .«name_len»))
 
 add-from : tie.Need-add-from
 add-from c = search needs
@@ -43,7 +43,7 @@ returns-2 c =
     let a = c .before .before .before .args in
     let d = drop (a .n + 1) (a .s .now) in
     let l = length-drop (a .n + 1) (a .s .now) in
-    take-all (length (a .s .now) - (a .n + 1)) d (omega arith) ∙ sym (take-all (a .found .name) d (omega arith))
+    take-all (length (a .s .now) - (a .n + 1)) d (omega arith) ∙ sym (take-all (a .found .«name_len») d (omega arith))
 
 add-to : tie.Need-add-to
 add-to c = search needs
@@ -60,7 +60,7 @@ part-result-end-3 c = search needs
 returns-3 : tie.Need-returns-3
 returns-3 c =
     let a = c .before .before .before .args in
-    let z : a .n + 1 + a .found .name - (a .n + 1) ≡ a .found .name = omega arith in
+    let z : a .n + 1 + a .found .«name_len» - (a .n + 1) ≡ a .found .«name_len» = omega arith in
     rw z
 
 pub name-of-spec : {M : Type 1} → statement M

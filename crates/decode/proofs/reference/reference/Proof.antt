@@ -76,12 +76,12 @@ module _ (e : tie.After-end) where
   text = sym (e .before .before .until-line-end .ensures) ∙ e .end .given .1
 
 -- the text is held against the name rules
-module _ (v : tie.After-is-valid-by) where
+module _ (v : tie.After-is-valid-using) where
   abbrev with-text : tie.After-end
   with-text = v .before .before .before
 
-  valid-is : validName (byte (text-start with-text)) (name-text with-text) ≡ v .is-valid-by .result
-  valid-is = ap (validName (byte (text-start with-text))) (sym (v .before .between .ensures)) ∙ sym (v .is-valid-by .ensures)
+  valid-is : validName (byte (text-start with-text)) (name-text with-text) ≡ v .is-valid-using .result
+  valid-is = ap (validName (byte (text-start with-text))) (sym (v .before .between .ensures)) ∙ sym (v .is-valid-using .ensures)
 
 -- it is a name
 module _ (g : tie.Else1) where
@@ -92,19 +92,19 @@ module _ (g : tie.Else1) where
   name = valid-is (g .before) ∙ not-false _ (g .if1 .left)
 
 -- a caret begins the next line
-module _ (o : tie.After-object) where
+module _ (o : tie.After-peeled) where
   abbrev with-name : tie.Else1
   with-name = o .before .before .before
 
-  abbrev object : ℕ
-  object = o .object .given .0 .0
+  abbrev peeled : ℕ
+  peeled = o .peeled .given .0 .0
 
-  caret : byteAt 94 (s (text-start (of-text with-name))) (next (of-text with-name)) ≡ At object
-  caret = sym (o .before .before .past-byte2 .ensures) ∙ o .object .given .1
+  caret : byteAt 94 (s (text-start (of-text with-name))) (next (of-text with-name)) ≡ At peeled
+  caret = sym (o .before .before .past-byte2 .ensures) ∙ o .peeled .given .1
 
 -- and the peeled id is read: the line end behind it decides
-module _ (p : tie.After-object-end) where
-  abbrev with-caret : tie.After-object
+module _ (p : tie.After-peeled-end) where
+  abbrev with-caret : tie.After-peeled
   with-caret = p .before .before .before .before
 
   abbrev named : tie.Else1
@@ -116,18 +116,18 @@ module _ (p : tie.After-object-end) where
   abbrev b : tie.Start
   b = text-start line
 
-  abbrev object-end : ℕ
-  object-end = p .object-end .given .0 .0
+  abbrev peeled-end : ℕ
+  peeled-end = p .peeled-end .given .0 .0
 
-  peeled : idAt (byte b) (n b) (s b) (object with-caret) ≡ At object-end
-  peeled = sym (p .before .before .hex-hash2 .ensures) ∙ p .object-end .given .1
+  peeled-id : idAt (byte b) (n b) (s b) (peeled with-caret) ≡ At peeled-end
+  peeled-id = sym (p .before .before .hex-hash2 .ensures) ∙ p .peeled-end .given .1
 
-  unended : newlineAt (s b) object-end ≡ Unread → recordOf (byte b) (n b) (s b) ≡ Bad Peeled
-  unended h = no-peeled-end (byte b) (n b) (s b) (id (with-id (with-space line))) (space (with-space line)) (text line) (name named) (caret with-caret) peeled h
+  unended : newlineAt (s b) peeled-end ≡ Unread → recordOf (byte b) (n b) (s b) ≡ Bad Peeled
+  unended h = no-peeled-end (byte b) (n b) (s b) (id (with-id (with-space line))) (space (with-space line)) (text line) (name named) (caret with-caret) peeled-id h
 
-  ended : {size : ℕ} → newlineAt (s b) object-end ≡ At size
-      → recordOf (byte b) (n b) (s b) ≡ Good (record { name = end line - from (with-space line); object = object with-caret; size = size })
-  ended h = peeled-record (byte b) (n b) (s b) (id (with-id (with-space line))) (space (with-space line)) (text line) (name named) (caret with-caret) peeled h
+  ended : {size : ℕ} → newlineAt (s b) peeled-end ≡ At size
+      → recordOf (byte b) (n b) (s b) ≡ Good (record { «name_len» = end line - from (with-space line); peeled = peeled with-caret; size = size })
+  ended h = peeled-record (byte b) (n b) (s b) (id (with-id (with-space line))) (space (with-space line)) (text line) (name named) (caret with-caret) peeled-id h
 
 hex-hash-requires : tie.Need-hex-hash-requires
 hex-hash-requires c κs = search needs
@@ -179,8 +179,8 @@ returns-3 c =
 between-requires : tie.Need-between-requires
 between-requires c κs = search needs
 
-is-valid-by-requires : tie.Need-is-valid-by-requires
-is-valid-by-requires c κs = search needs
+is-valid-using-requires : tie.Need-is-valid-using-requires
+is-valid-using-requires c κs = search needs
 
 returns-4 : tie.Need-returns-4
 returns-4 c =
@@ -190,8 +190,8 @@ returns-4 c =
     let b = text-start e in
     sym (no-name (byte b) (n b) (s b) (id (with-id f)) (space f) (text e) (valid-is v ∙ not-true _ (c .if1 .taken)))
 
-sub-name : tie.Need-sub-name
-sub-name c =
+sub-name-len : tie.Need-sub-name-len
+sub-name-len c =
     let e = of-text c in
     let b = text-start e in
     text-order (byte b) (s b) (from (with-space e)) (text e)
@@ -199,8 +199,8 @@ sub-name c =
 past-byte-requires-2 : tie.Need-past-byte-requires-2
 past-byte-requires-2 c κs = search needs
 
-enum-known-object : tie.Need-enum-known-object
-enum-known-object c = search needs
+enum-known-peeled : tie.Need-enum-known-peeled
+enum-known-peeled c = search needs
 
 enum-told-4 : tie.Need-enum-told-4
 enum-told-4 c = search needs
@@ -217,8 +217,8 @@ returns-5 c =
 hex-hash-requires-2 : tie.Need-hex-hash-requires-2
 hex-hash-requires-2 c κs = search needs
 
-enum-known-object-end : tie.Need-enum-known-object-end
-enum-known-object-end c = search needs
+enum-known-peeled-end : tie.Need-enum-known-peeled-end
+enum-known-peeled-end c = search needs
 
 enum-told-5 : tie.Need-enum-told-5
 enum-told-5 c = search needs
@@ -265,15 +265,15 @@ reference-spec =
     enum-told-3
     returns-3
     between-requires
-    is-valid-by-requires
+    is-valid-using-requires
     returns-4
-    sub-name
+    sub-name-len
     past-byte-requires-2
-    enum-known-object
+    enum-known-peeled
     enum-told-4
     returns-5
     hex-hash-requires-2
-    enum-known-object-end
+    enum-known-peeled-end
     enum-told-5
     returns-6
     newline-requires

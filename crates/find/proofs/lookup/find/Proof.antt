@@ -16,8 +16,8 @@ enum-known-n c = search needs
 table-requires : tie.Need-table-requires
 table-requires c κs = search needs
 
-find-by-requires : tie.Need-find-by-requires
-find-by-requires c κs = search needs
+find-using-requires : tie.Need-find-using-requires
+find-using-requires c κs = search needs
 
 enum-told : tie.Need-enum-told
 enum-told c = search needs
@@ -32,7 +32,7 @@ returns c =
     let k = t .before in
     let a = k .before .before .before .before .before .before .args in
     rw (sym (k .before .before .before .admit .ensures) ∙ k .before .n .given .1)
-    (ap Done (c .find-by .ensures ∙ by-paper (λ byte. lookupOf byte (k .before .n .given .0 .0) (a .body .now) (a .name .now)) (t .table .ensures)))
+    (ap Done (c .find-using .ensures ∙ by-paper (λ byte. lookupOf byte (k .before .n .given .0 .0) (a .body .now) (a .name .now)) (t .table .ensures)))
 
 returns-2 : tie.Need-returns-2
 unfolding lookupAnswer
@@ -49,7 +49,7 @@ find-spec =
     admit-requires
     enum-known-n
     table-requires
-    find-by-requires
+    find-using-requires
     enum-told
     enum-told-2
     returns

@@ -16,8 +16,8 @@ enum-known-n c = search needs
 table-requires : tie.Need-table-requires
 table-requires c κs = search needs
 
-next-by-requires : tie.Need-next-by-requires
-next-by-requires c κs = search needs
+next-using-requires : tie.Need-next-using-requires
+next-using-requires c κs = search needs
 
 enum-told : tie.Need-enum-told
 enum-told c = search needs
@@ -32,7 +32,7 @@ returns c =
     let k = t .before in
     let a = k .before .before .before .before .before .before .args in
     rw (sym (k .before .before .before .admit .ensures) ∙ k .before .n .given .1)
-    (ap Done (c .next-by .ensures ∙ by-paper (λ byte. stepOf byte (k .before .n .given .0 .0) (a .prefix .now) (a .s .now) (a .place) (a .item)) (t .table .ensures)))
+    (ap Done (c .next-using .ensures ∙ by-paper (λ byte. stepOf byte (k .before .n .given .0 .0) (a .prefix .now) (a .s .now) (a .place) (a .item)) (t .table .ensures)))
 
 returns-2 : tie.Need-returns-2
 unfolding stepAnswer
@@ -49,7 +49,7 @@ next-with-prefix-spec =
     admit-requires
     enum-known-n
     table-requires
-    next-by-requires
+    next-using-requires
     enum-told
     enum-told-2
     returns

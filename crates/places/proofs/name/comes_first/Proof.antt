@@ -1,7 +1,7 @@
 -- `places::name::comes_first` meets its contract: each order of the names says who comes first.
 use mathlib.Core.Path.{sym, _∙_}
 use Rattle.compare.specs.declared.order.Order.the-variants.{Less, Equal, Greater}
-use Rattle.places.specs.Name.{nameOf}
+use Rattle.places.specs.Name.{standingName}
 use Rattle.places.proofs.Places.{before-by}
 use borrow.Author.Needs.{needs}
 use Rattle.places.proofs.name.comes_first.Statement.{statement}
@@ -22,17 +22,17 @@ enum-told-3 c = search needs
 returns : tie.Need-returns
 returns c =
     let a = c .before .before .before .before .args in
-    sym (before-by (nameOf (a .layout) (a .s .now)) (a .p) (a .q) Less (sym (c .before .before .compare .ensures) ∙ c .enum-told .given .1))
+    sym (before-by (standingName (a .layout) (a .s .now)) (a .p) (a .q) Less (sym (c .before .before .compare .ensures) ∙ c .enum-told .given .1))
 
 returns-2 : tie.Need-returns-2
 returns-2 c =
     let a = c .before .before .before .before .args in
-    sym (before-by (nameOf (a .layout) (a .s .now)) (a .p) (a .q) Equal (sym (c .before .before .compare .ensures) ∙ c .enum-told2 .given .1))
+    sym (before-by (standingName (a .layout) (a .s .now)) (a .p) (a .q) Equal (sym (c .before .before .compare .ensures) ∙ c .enum-told2 .given .1))
 
 returns-3 : tie.Need-returns-3
 returns-3 c =
     let a = c .before .before .before .before .args in
-    sym (before-by (nameOf (a .layout) (a .s .now)) (a .p) (a .q) Greater (sym (c .before .before .compare .ensures) ∙ c .enum-told3 .given .1))
+    sym (before-by (standingName (a .layout) (a .s .now)) (a .p) (a .q) Greater (sym (c .before .before .compare .ensures) ∙ c .enum-told3 .given .1))
 
 pub comes-first-spec : {M : Type 1} → statement M
 comes-first-spec =

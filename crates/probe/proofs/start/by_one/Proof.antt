@@ -2,7 +2,7 @@
 use mathlib.Core.Path.{_≡_, sym, _∙_}
 use Prim.Native.Nat.{_≤_}
 use lib.ListN.{length}
-use Rattle.probe.specs.Start.{lineStart}
+use Rattle.probe.specs.RecordStart.{lineStart}
 use Rattle.probe.proofs.Starts.{line-first, line-stop, line-back}
 use borrow.Author.Needs.{needs}
 use Rattle.probe.proofs.start.by_one.Statement.{statement}

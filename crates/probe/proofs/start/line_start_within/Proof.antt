@@ -3,7 +3,7 @@ use mathlib.Core.Path.{_≡_, sym, ap, _∙_}
 use Prim.Native.Nat.{_+_, _-_, _≤_}
 use borrow.Author.Tests.{eqb-false}
 use Rattle.block.proofs.Members.{none-among}
-use Rattle.probe.specs.Start.{lineStart}
+use Rattle.probe.specs.RecordStart.{lineStart}
 use Rattle.probe.proofs.Starts.{line-skip}
 use borrow.Author.Needs.{needs}
 use Rattle.probe.proofs.start.line_start_within.Statement.{statement}

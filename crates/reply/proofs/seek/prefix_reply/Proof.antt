@@ -5,14 +5,14 @@ use borrow.Author.Needs.{needs}
 use Rattle.reply.proofs.seek.prefix_reply.Statement.{statement}
 use Rattle.reply.proofs.seek.prefix_reply.Tie as tie
 
-list-requires : tie.Need-list-requires
-list-requires c κs = search needs
+begin-requires : tie.Need-begin-requires
+begin-requires c κs = search needs
 
 prefix-told-requires : tie.Need-prefix-told-requires
 prefix-told-requires c κs = search needs
 
 returns : tie.Need-returns
-returns c = c .prefix-told .ensures ∙ ap prefixReply (c .before .list .ensures)
+returns c = c .prefix-told .ensures ∙ ap prefixReply (c .before .begin .ensures)
 
 pub prefix-reply-spec : {M : Type 1} → statement M
-prefix-reply-spec = tie.close (tie.spec list-requires prefix-told-requires returns)
+prefix-reply-spec = tie.close (tie.spec begin-requires prefix-told-requires returns)

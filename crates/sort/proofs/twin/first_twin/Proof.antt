@@ -3,7 +3,7 @@ use mathlib.Core.Path.{_≡_, sym, _∙_}
 use Prim.Native.Nat.{_+_, _-_, _<_}
 use native.Mathlib.Omega.{arith}
 use lib.ListN.{length, drop}
-use Rattle.places.specs.Name.{nameOf}
+use Rattle.places.specs.Name.{standingName}
 use Rattle.sort.specs.Twin.{firstTwin}
 use Rattle.sort.proofs.Twins.{twin-at, no-twin-left}
 use borrow.Author.Needs.{needs}
@@ -11,7 +11,7 @@ use Rattle.sort.proofs.twin.first_twin.Statement.{statement}
 use Rattle.sort.proofs.twin.first_twin.Tie as tie
 
 abbrev Inv-loop : tie.InvT-loop
-Inv-loop index s layout i₀ i = (0 < i) × (firstTwin (nameOf layout s) (drop (i - 1) index) ≡ firstTwin (nameOf layout s) index)
+Inv-loop index s layout i₀ i = (0 < i) × (firstTwin (standingName layout s) (drop (i - 1) index) ≡ firstTwin (standingName layout s) index)
 
 abbrev μ-loop : tie.MeasureT-loop
 μ-loop index s layout i₀ i = length index - i
@@ -41,7 +41,7 @@ returns : tie.Need-returns Inv-loop μ-loop
 returns c =
     let l = c .before .before .before .before .before in
     let a = l .before .before .before .args in
-    let here = twin-at (nameOf (a .layout) (a .s .now)) (a .index .now) (l .loop .i) (omega arith) (omega arith) in
+    let here = twin-at (standingName (a .layout) (a .s .now)) (a .index .now) (l .loop .i) (omega arith) (omega arith) in
     sym (rw (sym (c .before .same-name .ensures) ∙ c .if1 .taken) at here) ∙ l .loop .inv .1
 
 add-i : tie.Need-add-i Inv-loop μ-loop
@@ -54,7 +54,7 @@ loop-again : tie.Need-loop-again Inv-loop μ-loop
 loop-again c =
     let l = c .before .before .before .before .before in
     let a = l .before .before .before .args in
-    let here = twin-at (nameOf (a .layout) (a .s .now)) (a .index .now) (l .loop .i) (omega arith) (omega arith) in
+    let here = twin-at (standingName (a .layout) (a .s .now)) (a .index .now) (l .loop .i) (omega arith) (omega arith) in
     let e : l .loop .i + 1 - 1 ≡ l .loop .i = omega arith in
     (omega arith, rw e (sym (rw (sym (c .before .same-name .ensures) ∙ c .if1 .left) at here) ∙ l .loop .inv .1))
 
@@ -62,7 +62,7 @@ returns-2 : tie.Need-returns-2 Inv-loop μ-loop
 returns-2 c =
     let l = c .before in
     let a = l .before .before .before .args in
-    sym (no-twin-left (nameOf (a .layout) (a .s .now)) (a .index .now) (l .loop .i) (omega arith)) ∙ l .loop .inv .1
+    sym (no-twin-left (standingName (a .layout) (a .s .now)) (a .index .now) (l .loop .i) (omega arith)) ∙ l .loop .inv .1
 
 pub first-twin-spec : {M : Type 1} → statement M
 first-twin-spec =

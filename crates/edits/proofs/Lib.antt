@@ -1,0 +1,4 @@
+pub mod Filling
+pub mod Lists
+pub mod Ordering
+pub mod Outcomes

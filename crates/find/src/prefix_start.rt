@@ -1,0 +1,62 @@
+// Where the listing of a prefix starts; then iter's step goes on with the same prefix.
+ghost use mathlib.Core.Path.{_≡_};
+ghost use Prim.Native.Nat.{_≤_};
+ghost use lib.ListN.{length};
+ghost use Rattle.class.specs.Class.{classesOf};
+ghost use Rattle.find.specs.PrefixStart.{prefixStartOf, prefixStartFrom, prefixStartAnswer};
+use parse::limit::Admission;
+use search::Halved;
+use start::Start;
+
+pub enum PrefixStart {
+    // The place that the first step is taken from, and its item number.
+    From { place: usize, item: u64 },
+    // The part that it starts on begins with # and has no header: where that is, and the length of its text.
+    BadHeader { place: usize, text: usize },
+}
+
+pub enum PrefixStartAnswer {
+    Done(PrefixStart),
+    UnknownKind,
+    TooLarge,
+}
+
+pub fn begin(kind: u32, body: &[u8], prefix: &[u8]) -> PrefixStartAnswer
+    ensures { λ r. ⌜ r ≡ prefixStartAnswer kind (now (body .entry)) (now (prefix .entry)) ⌝ }
+{
+    match parse::limit::admit(kind, body.len(), prefix.len()) {
+        Admission::Digits(n) => {
+            let t = class::table();
+            PrefixStartAnswer::Done(begin_using(&t, n, body, prefix))
+        }
+        Admission::UnknownKind => PrefixStartAnswer::UnknownKind,
+        Admission::TooLarge => PrefixStartAnswer::TooLarge,
+    }
+}
+
+// The same by a table of byte classes and for ids of n digits. A remembered failure is ignored.
+pub fn begin_using(t: &[u8; 256], n: usize, body: &[u8], prefix: &[u8]) -> PrefixStart
+    ensures { λ r. ⌜ r ≡ prefixStartOf (classesOf (now (t .entry))) n (now (body .entry)) (now (prefix .entry)) ⌝ }
+{
+    match search::search(t, n, body, prefix) {
+        Halved::Hit(place) => begin_from(t, body, place),
+        Halved::Miss { place, failed: _ } => begin_from(t, body, place),
+    }
+}
+
+// The start on the part from a place on.
+fn begin_from(t: &[u8; 256], body: &[u8], place: usize) -> PrefixStart
+    requires { ⌜ place ≤ length (now body) ⌝ }
+    ensures { λ r. ⌜ r ≡ prefixStartFrom (classesOf (now (t .entry))) (now (body .entry)) place ⌝ }
+{
+    match start::begin_using(t, parse::part::between(body, place, body.len())) {
+        Start::At {
+            place: behind,
+            item,
+        } => PrefixStart::From {
+            place: place + behind,
+            item,
+        },
+        Start::BadHeader(text) => PrefixStart::BadHeader { place, text },
+    }
+}
