@@ -72,14 +72,14 @@ pub fn reference(t: &[u8; 256], s: &[u8], n: usize) -> Reading
 pub fn name_of(s: &[u8], n: usize, found: Record) -> &[u8]
     ensures { λ r. ⌜ now r ≡ take (found .«name_len») (drop (n + 1) (now (s .entry))) ⌝ }
 {
-    let name = found.name_len;
+    let len = found.name_len;
     if s.len() <= n {
         return &s[0..0];
     }
     let from = n + 1;
-    if s.len() - from <= name {
+    if s.len() - from <= len {
         return &s[from..];
     }
-    let to = from + name;
+    let to = from + len;
     &s[from..to]
 }

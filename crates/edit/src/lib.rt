@@ -81,17 +81,17 @@ fn behind_length(
 }
 
 // Whether a name and ids of these lengths stand there in full.
-fn stands(s: &[u8], next: usize, name: usize, ids: usize) -> bool
-    ensures { λ r. ⌜ r ≡ leb (next + name + ids) (length (now (s .entry))) ⌝ }
+fn stands(s: &[u8], next: usize, len: usize, ids: usize) -> bool
+    ensures { λ r. ⌜ r ≡ leb (next + len + ids) (length (now (s .entry))) ⌝ }
 {
     if s.len() < next {
         return false;
     }
     let left = s.len() - next;
-    if left < name {
+    if left < len {
         return false;
     }
-    ids <= left - name
+    ids <= left - len
 }
 
 fn wide(b: u8) -> usize

@@ -12,7 +12,7 @@ use Rattle.edit.proofs.stands.Tie as tie
 returns : tie.Need-returns
 returns c =
     let a = c .before .args in
-    sym (lt-leb (a .next + a .name + a .ids) (length (a .s .now)) (omega arith))
+    sym (lt-leb (a .next + a .len + a .ids) (length (a .s .now)) (omega arith))
 
 sub-left : tie.Need-sub-left
 sub-left c = search needs
@@ -20,12 +20,12 @@ sub-left c = search needs
 returns-2 : tie.Need-returns-2
 returns-2 c =
     let a = c .before .before .args in
-    sym (lt-leb (a .next + a .name + a .ids) (length (a .s .now)) (omega arith))
+    sym (lt-leb (a .next + a .len + a .ids) (length (a .s .now)) (omega arith))
 
 returns-3 : tie.Need-returns-3
 returns-3 c =
     let a = c .before .before .args in
-    leb-left (length (a .s .now)) (a .next) (a .name) (a .ids) (search needs)
+    leb-left (length (a .s .now)) (a .next) (a .len) (a .ids) (search needs)
 
 pub stands-spec : {M : Type 1} → statement M
 stands-spec = tie.close (tie.spec returns sub-left returns-2 returns-3)
