@@ -21,7 +21,7 @@ for f in $public; do
     case $f in host::*) grep -q " : Anywhere $name\.ended (λ M\. $name\.clauses)" crates/determined/specs/Anywhere.antt || { echo "no theorem Anywhere: $f"; exit 1; } ;; esac
     count=$((count + 1))
 done
-lines=$(grep -c '^| `[a-z]*::' docs/DETERMINED.md)
+lines=$(grep -c '^| `[a-z_]*::' docs/DETERMINED.md)
 [ "$lines" -eq "$count" ] || { echo "docs/DETERMINED.md has $lines functions, the crates have $count"; exit 1; }
 
 dir=$(mktemp -d) || exit 1

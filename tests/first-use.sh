@@ -42,7 +42,9 @@ mkdir -p target/release
 printf '#!/bin/sh\necho "answered $*"\n' >target/release/packed-refs
 chmod +x target/release/packed-refs
 END
-chmod +x "$dir/rt" "$dir/cargo"
+# the same on every processor: elsewhere than on x86-64 ./libhost also compiles what rt made, and here rt makes nothing
+printf '#!/bin/sh\necho x86_64\n' >"$dir/uname"
+chmod +x "$dir/rt" "$dir/cargo" "$dir/uname"
 export CALLS="$dir/calls"
 unset RT_JOBS
 ask() { PATH=$dir:$PATH "$dir/repo/packed-refs" "$@" 2>"$dir/err"; }

@@ -48,6 +48,12 @@ want 2 '* is not there*' check "$dir/missing"
 want 64 '*try --help' lookup examples/night
 want 64 '*try --help'
 
+# closed descriptors, through ./packed-refs too
+./packed-refs check - <&- 2>"$dir/said"
+[ $? -eq 2 ] && grep -q "standard input can't be read: it is closed" "$dir/said" || { echo "a closed input: $(cat "$dir/said")"; failed=1; }
+./packed-refs list examples/night >&- 2>"$dir/said"
+[ $? -eq 2 ] && grep -q "standard output can't be written: it is closed" "$dir/said" || { echo "a closed output: $(cat "$dir/said")"; failed=1; }
+
 # the README's example, word for word
 example=$(sed -n '/^    \$ .\/packed-refs lookup/,/^$/s/^    //p' README.md)
 said=$(bash -c "$(sed -n '1s/^\$ //p' <<<"$example")" 2>&1)

@@ -210,6 +210,17 @@ fn a_file_that_changes_while_it_is_read() {
     once.is(0, &format!("0 charted refs/s/b {:040} byte 50\n", 2), "");
 }
 
+/// A table that was written to just now may still be in the making, and stand at the end of a line: absent is not said of it before it stands still.
+#[test]
+fn a_table_in_the_making_is_waited_for() {
+    let dir = Dir::new();
+    let (first, rest) = (dir.file("first", record('1', "refs/s/a").as_bytes()), dir.file("rest", record('2', "refs/s/b").as_bytes()));
+    let line = format!("cat '{first}' >'{0}'; (sleep 0.01; cat '{rest}' >>'{0}') & exec \"$@\"", dir.path("table"));
+    let charted = format!("0 charted refs/s/b {} byte 50\n", id('2'));
+    shell(&line, &["lookup", &dir.path("table"), "refs/s/b"]).is(0, &charted, "");
+    shell(&line, &["check", &dir.path("table")]).is(0, "0 passed: 2 records\n", "");
+}
+
 #[test]
 fn absent_of_a_table_that_has_its_records() {
     let dir = Dir::new();

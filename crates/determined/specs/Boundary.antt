@@ -1,15 +1,19 @@
--- What C and Rust call, and the replies: any two outcomes allowed are the same.
-use Rattle.reply.proofs.head.header_reply
-use Rattle.reply.proofs.head.name_number
-use Rattle.reply.proofs.walk.start_reply
-use Rattle.reply.proofs.walk.step_reply
-use Rattle.reply.proofs.walk.prefix_step_reply
-use Rattle.reply.proofs.walk.check_reply
-use Rattle.reply.proofs.seek.lookup_reply
-use Rattle.reply.proofs.seek.prefix_reply
-use Rattle.reply.proofs.seek.ask_reply
-use Rattle.reply.proofs.content.loose_reply
-use Rattle.reply.proofs.told.fault_number
+-- What C and Rust call, and the replies that it gives: any two outcomes allowed are the same.
+use Rattle.reply_file.proofs.head.header_reply
+use Rattle.reply_file.proofs.head.name_number
+use Rattle.reply_file.proofs.walk.start_reply
+use Rattle.reply_file.proofs.walk.step_reply
+use Rattle.reply_file.proofs.walk.prefix_step_reply
+use Rattle.reply_file.proofs.verdict.check_reply
+use Rattle.reply_lookup.proofs.lookup.lookup_reply
+use Rattle.reply_lookup.proofs.prefix.prefix_reply
+use Rattle.reply_lookup.proofs.asked.ask_reply
+use Rattle.reply_loose.proofs.loose_reply
+use Rattle.reply_merge.proofs.merge_reply
+use Rattle.tell.proofs.parts_at
+use Rattle.tell.proofs.refusal
+use Rattle.tell.proofs.refusal_gives
+use Rattle.tell.proofs.fault_number
 use Rattle.host.proofs.read.packed_refs_header
 use Rattle.host.proofs.read.packed_refs_name
 use Rattle.host.proofs.read.packed_refs_start
@@ -35,7 +39,11 @@ pub record Boundary : Type 2 where
   pub reply-prefix-reply : Determined prefix_reply.ended (λ M. prefix_reply.clauses)
   pub reply-ask-reply : Determined ask_reply.ended (λ M. ask_reply.clauses)
   pub reply-loose-reply : Determined loose_reply.ended (λ M. loose_reply.clauses)
-  pub reply-fault-number : Determined fault_number.ended (λ M. fault_number.clauses)
+  pub reply-merge-reply : Determined merge_reply.ended (λ M. merge_reply.clauses)
+  pub tell-parts-at : Determined parts_at.ended (λ M. parts_at.clauses)
+  pub tell-refusal : Determined refusal.ended (λ M. refusal.clauses)
+  pub tell-refusal-gives : Determined refusal_gives.ended (λ M. refusal_gives.clauses)
+  pub tell-fault-number : Determined fault_number.ended (λ M. fault_number.clauses)
   pub packed-refs-header : Determined packed_refs_header.ended (λ M. packed_refs_header.clauses)
   pub packed-refs-name : Determined packed_refs_name.ended (λ M. packed_refs_name.clauses)
   pub packed-refs-start : Determined packed_refs_start.ended (λ M. packed_refs_start.clauses)

@@ -10,24 +10,27 @@ ghost use Rattle.ask.specs.Ask.{askAnswer};
 ghost use Rattle.find.specs.Lookup.{lookupAnswer};
 ghost use Rattle.find.specs.PrefixStart.{prefixStartAnswer};
 ghost use Rattle.loose.specs.Loose.{looseAnswer};
-ghost use Rattle.reply.specs.Head.{headerReply, nameNumber};
-ghost use Rattle.reply.specs.Walk.{startReply, stepReply, checkReply};
-ghost use Rattle.reply.specs.Seek.{lookupReply, prefixReply, askReply};
-ghost use Rattle.reply.specs.Content.{looseReply};
-use reply::content::LooseReply;
-use reply::head::HeaderReply;
-use reply::seek::AskReply;
-use reply::seek::LookupReply;
-use reply::seek::PrefixReply;
-use reply::walk::CheckReply;
-use reply::walk::StartReply;
-use reply::walk::StepReply;
+ghost use Rattle.reply_file.specs.Head.{headerReply, nameNumber};
+ghost use Rattle.reply_file.specs.Walk.{startReply, stepReply};
+ghost use Rattle.reply_file.specs.Verdict.{checkReply};
+ghost use Rattle.reply_lookup.specs.Lookup.{lookupReply};
+ghost use Rattle.reply_lookup.specs.Prefix.{prefixReply};
+ghost use Rattle.reply_lookup.specs.Asked.{askReply};
+ghost use Rattle.reply_loose.specs.Loose.{looseReply};
+use reply_file::head::HeaderReply;
+use reply_file::verdict::CheckReply;
+use reply_file::walk::StartReply;
+use reply_file::walk::StepReply;
+use reply_lookup::asked::AskReply;
+use reply_lookup::lookup::LookupReply;
+use reply_lookup::prefix::PrefixReply;
+use reply_loose::LooseReply;
 
 #[no_mangle]
 pub extern "C" fn packed_refs_header(file: &[u8]) -> HeaderReply
     ensures { λ r. ⌜ r ≡ headerReply (headerAnswer (now (file .entry))) ⌝ }
 {
-    reply::head::header_reply(file)
+    reply_file::head::header_reply(file)
 }
 
 // The number alone: 0 for a valid name, 3 for another, 17.
@@ -35,21 +38,21 @@ pub extern "C" fn packed_refs_header(file: &[u8]) -> HeaderReply
 pub extern "C" fn packed_refs_name(name: &[u8]) -> u32
     ensures { λ r. ⌜ r ≡ nameNumber (now (name .entry)) ⌝ }
 {
-    reply::head::name_number(name)
+    reply_file::head::name_number(name)
 }
 
 #[no_mangle]
 pub extern "C" fn packed_refs_start(kind: u32, file: &[u8]) -> StartReply
     ensures { λ r. ⌜ r ≡ startReply (startAnswer kind (now (file .entry))) ⌝ }
 {
-    reply::walk::start_reply(kind, file)
+    reply_file::walk::start_reply(kind, file)
 }
 
 #[no_mangle]
 pub extern "C" fn packed_refs_step(kind: u32, bytes: &[u8], place: usize, item: u64) -> StepReply
     ensures { λ r. ⌜ r ≡ stepReply kind place (stepAnswer kind [] (now (bytes .entry)) place item) ⌝ }
 {
-    reply::walk::step_reply(kind, bytes, place, item)
+    reply_file::walk::step_reply(kind, bytes, place, item)
 }
 
 #[no_mangle]
@@ -62,14 +65,14 @@ pub extern "C" fn packed_refs_step_prefix(
 ) -> StepReply
     ensures { λ r. ⌜ r ≡ stepReply kind place (stepAnswer kind (now (prefix .entry)) (now (bytes .entry)) place item) ⌝ }
 {
-    reply::walk::prefix_step_reply(kind, bytes, prefix, place, item)
+    reply_file::walk::prefix_step_reply(kind, bytes, prefix, place, item)
 }
 
 #[no_mangle]
 pub extern "C" fn packed_refs_check(kind: u32, file: &[u8]) -> CheckReply
     ensures { λ r. ⌜ r ≡ checkReply (checkAnswer kind (now (file .entry))) ⌝ }
 {
-    reply::walk::check_reply(kind, file)
+    reply_file::verdict::check_reply(kind, file)
 }
 
 // The start of the record that a place lies in. The place alone: there is no refusal.
@@ -84,26 +87,26 @@ pub extern "C" fn packed_refs_record_start(bytes: &[u8], place: usize) -> usize
 pub extern "C" fn packed_refs_lookup(kind: u32, body: &[u8], name: &[u8]) -> LookupReply
     ensures { λ r. ⌜ r ≡ lookupReply kind (lookupAnswer kind (now (body .entry)) (now (name .entry))) ⌝ }
 {
-    reply::seek::lookup_reply(kind, body, name)
+    reply_lookup::lookup::lookup_reply(kind, body, name)
 }
 
 #[no_mangle]
 pub extern "C" fn packed_refs_prefix(kind: u32, body: &[u8], prefix: &[u8]) -> PrefixReply
     ensures { λ r. ⌜ r ≡ prefixReply (prefixStartAnswer kind (now (body .entry)) (now (prefix .entry))) ⌝ }
 {
-    reply::seek::prefix_reply(kind, body, prefix)
+    reply_lookup::prefix::prefix_reply(kind, body, prefix)
 }
 
 #[no_mangle]
 pub extern "C" fn packed_refs_ask(kind: u32, file: &[u8], name: &[u8]) -> AskReply
     ensures { λ r. ⌜ r ≡ askReply kind (askAnswer kind (now (file .entry)) (now (name .entry))) ⌝ }
 {
-    reply::seek::ask_reply(kind, file, name)
+    reply_lookup::asked::ask_reply(kind, file, name)
 }
 
 #[no_mangle]
 pub extern "C" fn packed_refs_loose(kind: u32, content: &[u8]) -> LooseReply
     ensures { λ r. ⌜ r ≡ looseReply (looseAnswer kind (now (content .entry))) ⌝ }
 {
-    reply::content::loose_reply(kind, content)
+    reply_loose::loose_reply(kind, content)
 }

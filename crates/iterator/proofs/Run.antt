@@ -25,9 +25,10 @@ use Rattle.iter.specs.Items.{nameIn}
 use Rattle.iter.specs.Step.{stepBy, stepOf, stepAnswer, more}
 use Rattle.iter.proofs.Steps.{step-end}
 use Rattle.handed.specs.Run.{runOf}
+use Rattle.handed.proofs.Runs.{hands-out}
 use Rattle.iterator.specs.declared.Iter.{Iter}
 use Rattle.iterator.specs.Next.{answerOf, placeAfter, itemAfter, nextIter}
-use Rattle.iterator.specs.Run.{handedBy, runFrom, admissionOf, GoesOn}
+use Rattle.iterator.specs.Run.{runBy, runFrom, admissionOf, GoesOn}
 
 -- with a known kind and inputs within the limit the answer is the plain step
 answered : (it : Iter) (n : ℕ) → admissionOf it ≡ Digits n → answerOf it ≡ Done (stepOf paper n (now (it .prefix)) (now (it .s)) (it .place) (it .item))
@@ -41,7 +42,7 @@ on n (suc turns) it e = go (stepOf paper n (now (it .prefix)) (now (it .s)) (it 
   where
     go : (w : Step) → stepOf paper n (now (it .prefix)) (now (it .s)) (it .place) (it .item) ≡ w → answerOf it ≡ Done w
         → runFrom n turns (nextIter it) ≡ runOf paper n (now (it .prefix)) (now (it .s)) turns (placeAfter (it .place) (answerOf it)) (itemAfter (it .item) (answerOf it))
-        → handedBy n it (runFrom n turns (nextIter it)) (answerOf it) ≡ runOf paper n (now (it .prefix)) (now (it .s)) (suc turns) (it .place) (it .item)
+        → runBy n it (runFrom n turns (nextIter it)) (answerOf it) ≡ runOf paper n (now (it .prefix)) (now (it .s)) (suc turns) (it .place) (it .item)
     go (End next last) p q rest = rw (q, p, runOf)
     go (Good r next following) p q rest = rw (rest, q, p, runOf)
     go (Error f told text next following) p q rest = rw (rest, q, p, runOf)
@@ -78,6 +79,7 @@ ends it next last q = go (admissionOf it) refl q
 pub goes-on : (it : Iter) → GoesOn it
 goes-on it = record {
   on = λ n turns e. on n turns it e;
+  all = λ n turns e enough. on n turns it e ∙ hands-out paper n (now (it .prefix)) (now (it .s)) (it .place) (it .item) .all turns enough;
   ends = ends it;
   unknown = λ q. rw q;
   large = λ q. rw q;

@@ -35,6 +35,7 @@ itemAfter item (Done r) = nextItem r
 itemAfter item UnknownKind = item
 itemAfter item TooLarge = item
 
+-- the answer, with where it leaves the iteration
 abbrev pub steppedFrom : ℕ → ℕ → StepAnswer → Stepped
 steppedFrom place item answer = record { answer = answer; place = placeAfter place answer; item = itemAfter item answer }
 

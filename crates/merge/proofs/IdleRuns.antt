@@ -30,7 +30,7 @@ use Rattle.runs.specs.Runs.{Run, runsOf, atEnd, marksOf, isStill}
 use Rattle.merge.specs.Splice.{Above, Rising}
 use Rattle.merge.proofs.Entries.{Ascends}
 use Rattle.merge.proofs.OldSound.{olds-ascend}
-use Rattle.merge.proofs.Overriding.{same-greater, lower}
+use Rattle.merge.proofs.InOrder.{same-greater, lower}
 use Rattle.runs.proofs.RunSteps.{runs-less, runs-equal, runs-greater, length-runs}
 use Rattle.runs.proofs.RunTurns.{length-marks}
 

@@ -1,5 +1,4 @@
 pub mod Answers
-pub mod CheckedLookup
 pub mod EditsRise
 pub mod EditsSound
 pub mod Entries
@@ -7,15 +6,9 @@ pub mod Examples
 pub mod Finished
 pub mod GoodItems
 pub mod IdleRuns
+pub mod InOrder
 pub mod NewFile
 pub mod OldLines
 pub mod OldSound
-pub mod Overriding
-pub mod ReadBack
 pub mod Ready
 pub mod Splice
-pub mod Theorems
-pub mod WrittenFile
-pub mod WrittenHeader
-pub mod WrittenItems
-pub mod WrittenLines

@@ -2,4 +2,3 @@ pub mod Entry
 pub mod Examples
 pub mod Merge
 pub mod Splice
-pub mod Theorems

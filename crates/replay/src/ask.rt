@@ -88,14 +88,14 @@ fn step(
     prefix: &[u8],
     place: usize,
     number: u64,
-) -> reply::walk::StepReply {
+) -> reply_file::walk::StepReply {
     if prefix.len() == 0 {
         return host::read::packed_refs_step(kind, bytes, place, number);
     }
     host::read::packed_refs_step_prefix(kind, bytes, prefix, place, number)
 }
 
-fn item(r: reply::walk::StepReply) {
+fn item(r: reply_file::walk::StepReply) {
     let what = r.what;
     match what {
         0 => {

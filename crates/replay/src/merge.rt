@@ -45,7 +45,7 @@ fn write(kind: u32, old: &[u8], edits: &[u8], index: &mut [u32], out: &mut [u8])
     written(out, r.length);
 }
 
-fn told(r: host::write::MergeReply) {
+fn told(r: reply_merge::MergeReply) {
     let n = r.number;
     tell::number(n);
     match n {

@@ -10,6 +10,7 @@ use std::fs::{File, Metadata};
 use std::io::{self, Read};
 use std::os::unix::fs::MetadataExt;
 use std::path::{Path, PathBuf};
+use std::time::{Duration, SystemTime};
 
 pub struct Input {
     /// As it was named: a path, or `-` for standard input.
@@ -17,21 +18,45 @@ pub struct Input {
     /// What messages call it.
     pub name: String,
     pub bytes: Vec<u8>,
+    /// How the file stood before it was read, if it is a regular one with a path.
+    before: Option<State>,
 }
+
+/// So often a table is read that may still be in the making.
+const ATTEMPTS: u32 = 5;
+
+/// A file that was written to so shortly ago may still be in the making: whoever writes it in place may only be held up at the end of a line.
+const QUIET: Duration = Duration::from_millis(50);
 
 impl Input {
     /// A table: a file, or standard input where it is called `-`. One of zero bytes is refused unless the options say that it may be empty: neither Git
     /// nor a merge leaves one, but a copy that is under way does, and a pipe from a program that failed.
     pub fn table(path: &OsStr, settings: &Settings) -> Result<Input, Trouble> {
-        Input::read(path, settings.may_be_empty).map_err(|trouble| refusal(path, &trouble).into())
+        Input::table_for(path, settings, |_| Ok(true))
     }
 
-    /// The same, or nothing where there is no such file.
+    /// A table for a question whose answer may hang on the end of the file. Where it does, a file that was written to just now is waited for, and read
+    /// anew if it changes meanwhile.
+    pub fn table_for(path: &OsStr, settings: &Settings, needs_all: impl Fn(&Input) -> Result<bool, Trouble>) -> Result<Input, Trouble> {
+        Input::find(path, settings, needs_all)?.ok_or_else(|| not_there(path).into())
+    }
+
+    /// A table, or nothing where there is no such file.
     pub fn table_if_there(path: &OsStr, settings: &Settings) -> Result<Option<Input>, Trouble> {
-        match Input::read(path, settings.may_be_empty) {
-            Err(error) if matches!(error.trouble(), OpenTrouble::NotThere) => Ok(None),
-            read => read.map(Some).map_err(|error| refusal(path, &error).into()),
+        Input::find(path, settings, |_| Ok(true))
+    }
+
+    fn find(path: &OsStr, settings: &Settings, needs_all: impl Fn(&Input) -> Result<bool, Trouble>) -> Result<Option<Input>, Trouble> {
+        for _ in 0..ATTEMPTS {
+            let input = match Input::read(path, settings.may_be_empty) {
+                Err(error) if matches!(error.trouble(), OpenTrouble::NotThere) => return Ok(None),
+                read => read.map_err(|error| refusal(path, &error))?,
+            };
+            if (input.stands() && !input.is_young()) || !needs_all(&input)? || input.is_settled() {
+                return Ok(Some(input));
+            }
         }
+        Err(changes(path).into())
     }
 
     /// Something else than a table: what zero bytes mean is its reader's to say.
@@ -41,16 +66,38 @@ impl Input {
 
     /// No file at all.
     pub fn none(path: &OsStr) -> Input {
-        Input { given: path.to_os_string(), name: shown(path), bytes: Vec::new() }
+        Input::new(path, Vec::new())
+    }
+
+    /// Bytes under a name.
+    pub fn new(path: &OsStr, bytes: Vec<u8>) -> Input {
+        Input { given: path.to_os_string(), name: shown(path), bytes, before: None }
     }
 
     fn read(path: &OsStr, may_be_empty: bool) -> Result<Input, OpenError> {
         let name = shown(path);
+        let before = std::fs::metadata(path).ok().filter(|_| path != "-").and_then(|about| State::of(&about));
         let progress = Progress::new(format!("reading {name}"), None);
         let opener = Opener::new().may_be_empty(may_be_empty).progress(|done, total| progress.at_of(done, total));
         let bytes = if path == "-" { opener.bytes_from(Standard::open(), path)? } else { opener.bytes(path)? };
         drop(progress);
-        Ok(Input { given: path.to_os_string(), name, bytes })
+        Ok(Input { before, ..Input::new(path, bytes) })
+    }
+
+    fn is_young(&self) -> bool {
+        self.before.is_some_and(|before| before.is_young())
+    }
+
+    /// Whether it stands as it stood before it was read.
+    fn stands(&self) -> bool {
+        let now = self.path().and_then(|path| std::fs::metadata(path).ok());
+        now.and_then(|about| State::of(&about)) == self.before
+    }
+
+    /// Whether it still does so after a while.
+    fn is_settled(&self) -> bool {
+        std::thread::sleep(QUIET);
+        self.stands()
     }
 
     /// Where it is, unless it is standard input.
@@ -92,17 +139,29 @@ enum Standard {
     Failed(Option<io::Error>),
 }
 
-/// What changes if an open file is written to: its size and its time of modification.
-type State = (u64, i64, i64);
+/// Which regular file it is, and what changes if it is written to.
+#[derive(Clone, Copy, PartialEq, Eq)]
+struct State {
+    place: (u64, u64),
+    size: u64,
+    modified: SystemTime,
+}
 
-fn state(file: &File) -> io::Result<Option<State>> {
-    let about = file.metadata()?;
-    Ok(about.is_file().then(|| (about.size(), about.mtime(), about.mtime_nsec())))
+impl State {
+    fn of(about: &Metadata) -> Option<State> {
+        let modified = about.modified().ok()?;
+        about.is_file().then(|| State { place: (about.dev(), about.ino()), size: about.size(), modified })
+    }
+
+    /// Whether it was written to just now, or by a clock that is ahead of ours.
+    fn is_young(&self) -> bool {
+        !self.modified.elapsed().is_ok_and(|age| age >= QUIET)
+    }
 }
 
 impl Standard {
     fn open() -> Standard {
-        let opened = descriptors::input().and_then(|file| state(&file).map(|state| (file, state)));
+        let opened = descriptors::input().and_then(|file| file.metadata().map(|about| (file, State::of(&about))));
         match opened {
             Ok((file, None)) => Standard::Plain(file),
             Ok((file, Some(state))) => Standard::Regular(file, state),
@@ -117,8 +176,13 @@ impl Read for Standard {
             Standard::Plain(file) => file.read(bytes),
             Standard::Regular(file, before) => {
                 let got = file.read(bytes)?;
-                if got == 0 && !bytes.is_empty() && state(file)? != Some(*before) {
-                    return Err(io::Error::other("it was changed while it was read; ask again"));
+                if got == 0 && !bytes.is_empty() {
+                    if before.is_young() {
+                        std::thread::sleep(QUIET);
+                    }
+                    if State::of(&file.metadata()?) != Some(*before) {
+                        return Err(io::Error::other("it was changed while it was read; ask again"));
+                    }
                 }
                 Ok(got)
             }
@@ -127,13 +191,23 @@ impl Read for Standard {
     }
 }
 
+fn not_there(path: &OsStr) -> Refusal {
+    let words = format!(
+        "{} is not there. Do not send. See whether the right file was named; an older one in its place lacks every name since.",
+        shown(path)
+    );
+    Refusal { file: Some(path.to_os_string()), ..Refusal::new(words) }
+}
+
+fn changes(path: &OsStr) -> Refusal {
+    let words = format!("{} changes while it is read, each time anew. Do not send; ask again.", shown(path));
+    Refusal { file: Some(path.to_os_string()), ..Refusal::new(words) }
+}
+
 fn refusal(path: &OsStr, error: &OpenError) -> Refusal {
     let name = shown(path);
     let (words, number) = match error.trouble() {
-        OpenTrouble::NotThere => (
-            format!("{name} is not there. Do not send. See whether the right file was named; an older one in its place lacks every name since."),
-            None,
-        ),
+        OpenTrouble::NotThere => return not_there(path),
         OpenTrouble::Unreadable(error) => (format!("{name} can't be read: {error}. Do not send."), None),
         OpenTrouble::Empty => (
             format!(
@@ -143,7 +217,7 @@ fn refusal(path: &OsStr, error: &OpenError) -> Refusal {
             ),
             None,
         ),
-        OpenTrouble::Changed => (format!("{name} changes while it is read, each time anew. Do not send; ask again."), None),
+        OpenTrouble::Changed => return changes(path),
         OpenTrouble::NoMemory(bytes) => (format!("{name}: the memory does not suffice for {bytes} bytes. Do not send."), None),
         OpenTrouble::Refused(error) => (format!("{name}: {error}"), Some(Error::number(error))),
         other => (format!("{name} can't be read: {other:?}. Do not send."), None),

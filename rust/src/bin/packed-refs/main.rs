@@ -40,7 +40,6 @@ pub enum Status {
 }
 
 fn main() -> ExitCode {
-    signals::set_up();
     let args: Vec<OsString> = std::env::args_os().skip(1).collect();
     // A defect of this program is no answer either.
     let status = std::panic::catch_unwind(|| run(&args)).unwrap_or(Status::Refused);

@@ -24,7 +24,7 @@ pub fn all<'a>(words: &'a [OsString], file: Option<&'a Input>, settings: &Settin
     if !rest.is_empty() {
         return Err(cut(file, if settings.nul { "NUL" } else { "line feed" }).into());
     }
-    if names.is_empty() {
+    if names.len() == words.len() {
         return Err(Refusal {
             file: Some(file.given.clone()),
             ..Refusal::new(format!("{}: there is no name in it: nothing was asked", file.name))

@@ -41,9 +41,9 @@ const ENDING: [c_int; 5] = [SIGHUP, SIGINT, SIGQUIT, SIGTERM, SIGXCPU];
 /// The lock that is ours.
 static LOCK: AtomicPtr<c_char> = AtomicPtr::new(null_mut());
 
-/// To be called first. Whoever started the program with a signal ignored, as nohup does, keeps it ignored. Beyond a limit on a file's size a write is to
-/// fail like any other. An abort, as for want of memory, ends with exit status 2.
-pub fn set_up() {
+/// Runs before `main`: the standard library aborts, too, if it finds no memory to begin with. Whoever started the program with a signal ignored, as nohup
+/// does, keeps it ignored. Beyond a limit on a file's size a write is to fail like any other. An abort ends with exit status 2.
+extern "C" fn set_up() {
     // SAFETY: the handlers are functions of the type that C asks for, and do only what a handler may.
     unsafe {
         for number in ENDING {
@@ -55,6 +55,11 @@ pub fn set_up() {
         signal(SIGABRT, abort as *const () as usize);
     }
 }
+
+// SAFETY: the loader calls each function of this section once, before `main`, by C's calling convention.
+#[used]
+#[link_section = ".init_array"]
+static SET_UP: extern "C" fn() = set_up;
 
 extern "C" fn end(number: c_int) {
     take_away();

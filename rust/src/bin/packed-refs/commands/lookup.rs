@@ -21,7 +21,7 @@ pub fn run(settings: &Settings, words: &[OsString], out: &mut Out) -> Ended {
     }
     let list = names::file(file, settings)?;
     let names = names::all(named, list.as_ref(), settings)?;
-    let input = Input::table(file, settings)?;
+    let input = Input::table_for(file, settings, |input| some_absent(settings, input, &names))?;
     let judged = judge(settings.kind, &input)?;
     let mut asking = Asking::new(settings, &input, &judged, out);
     asking.ask(&names)?;
@@ -31,6 +31,12 @@ pub fn run(settings: &Settings, words: &[OsString], out: &mut Out) -> Ended {
         beside::loose_references(&input, out);
     }
     Ok(worst)
+}
+
+/// Whether a name is absent: only that answer may hang on what is still to be written.
+fn some_absent(settings: &Settings, input: &Input, names: &[&[u8]]) -> Result<bool, Trouble> {
+    let judged = judge(settings.kind, input)?;
+    Ok(judged.check.is_ok_and(|table| names.iter().any(|name| table.find(name) == Ok(Found::Absent))))
 }
 
 struct Asking<'a, 'o> {

@@ -77,14 +77,17 @@ impl Merge<'_> {
         let merged = merge(&self.table.bytes, &list.edits);
         drop(progress);
         match merged.map_err(|error| self.refusal(&list, &error))? {
-            Merged::New(bytes) => self.write(kind, judged.check.ok(), &bytes, lock, out),
+            Merged::New(bytes) => {
+                let old = judged.check.map_err(|error| self.refusal(&list, &error))?;
+                self.write(kind, &old, &bytes, lock, out)
+            }
             Merged::NothingToDo => self.nothing_to_do(judged.check.map_or(0, |table| table.len()), out),
             Merged::RemoveFile => self.remove(lock, out),
         }
     }
 
     /// What was made is checked once more before it is written, and counted.
-    fn write(&self, kind: IdKind, old: Option<Checked<'_>>, bytes: &[u8], lock: Option<Guarded>, out: &mut Out) -> Ended {
+    fn write(&self, kind: IdKind, old: &Checked<'_>, bytes: &[u8], lock: Option<Guarded>, out: &mut Out) -> Ended {
         let unfit = |error: Error| Trouble::refused(format!("the new file does not pass the check, and nothing was written: {error}"));
         let table = Table::check(kind, bytes).map_err(unfit)?;
         if !self.settings.nested_names {

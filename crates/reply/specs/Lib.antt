@@ -1,5 +1,0 @@
-pub mod Content
-pub mod Head
-pub mod Seek
-pub mod Told
-pub mod Walk

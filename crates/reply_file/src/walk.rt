@@ -1,0 +1,163 @@
+// Iteration: where it starts, and its steps.
+ghost use mathlib.Core.Path.{_≡_};
+ghost use mathlib.Core.List.{[]};
+ghost use Rattle.start.specs.Start.{startAnswer};
+ghost use Rattle.iter.specs.Step.{stepAnswer};
+ghost use Rattle.reply_file.specs.Walk.{startReply, startGives, stepReply, StepNear, stepBare};
+use iter::step::Step;
+use iter::step::StepAnswer;
+use start::Start;
+use start::StartAnswer;
+
+#[repr(C)]
+pub struct StartReply {
+    pub number: u32,
+    // Behind the header.
+    pub place: usize,
+    // The first item's number.
+    pub item: u64,
+    // The length of number 2's text, which starts at 0.
+    pub text_len: usize,
+}
+
+pub fn start_reply(kind: u32, file: &[u8]) -> StartReply
+    ensures { λ r. ⌜ r ≡ startReply (startAnswer kind (now (file .entry))) ⌝ }
+{
+    start_told(start::begin(kind, file))
+}
+
+fn start_told(answer: StartAnswer) -> StartReply
+    ensures { λ r. ⌜ r ≡ startReply answer ⌝ }
+{
+    match answer {
+        StartAnswer::Done(said) => match said {
+            Start::At { place, item } => start_gives(0, place, item, 0),
+            Start::BadHeader(text) => start_gives(2, 0, 0, text),
+        },
+        StartAnswer::UnknownKind => start_gives(1, 0, 0, 0),
+        StartAnswer::TooLarge => start_gives(17, 0, 0, 0),
+    }
+}
+
+fn start_gives(number: u32, place: usize, item: u64, text: usize) -> StartReply
+    ensures { λ r. ⌜ r ≡ startGives number place item text ⌝ }
+{
+    StartReply {
+        number,
+        place,
+        item,
+        text_len: text,
+    }
+}
+
+#[repr(C)]
+pub struct StepReply {
+    pub number: u32,
+    // 0 the end, 1 a record, 2 an error.
+    pub what: u32,
+    // Where the item starts: a record's id, or an error's text.
+    pub start: usize,
+    // What the next step is given: its place and its item number.
+    pub next: usize,
+    pub item: u64,
+    // A record's name, and its peeled id, 0 where there is none.
+    pub name_at: usize,
+    pub name_len: usize,
+    pub peeled_at: usize,
+    // An error's item number, and the length of its text.
+    pub error: u64,
+    pub text_len: usize,
+}
+
+pub fn step_reply(kind: u32, bytes: &[u8], place: usize, item: u64) -> StepReply
+    ensures { λ r. ⌜ r ≡ stepReply kind place (stepAnswer kind [] (now (bytes .entry)) place item) ⌝ }
+{
+    prefix_step_reply(kind, bytes, &bytes[0..0], place, item)
+}
+
+pub fn prefix_step_reply(
+    kind: u32,
+    bytes: &[u8],
+    prefix: &[u8],
+    place: usize,
+    item: u64,
+) -> StepReply
+    ensures { λ r. ⌜ r ≡ stepReply kind place (stepAnswer kind (now (prefix .entry)) (now (bytes .entry)) place item) ⌝ }
+{
+    step_told(
+        kind,
+        place,
+        iter::step::next_with_prefix(kind, bytes, prefix, place, item),
+    )
+}
+
+fn step_told(kind: u32, place: usize, answer: StepAnswer) -> StepReply
+    requires { ⌜ StepNear place answer ⌝ }
+    ensures { λ r. ⌜ r ≡ stepReply kind place answer ⌝ }
+{
+    match answer {
+        StepAnswer::Done(said) => match said {
+            Step::End {
+                next,
+                next_item: item,
+            } => step_bare(0, next, item),
+            Step::Good {
+                found,
+                next,
+                next_item: item,
+            } => {
+                let parts = tell::parts_at(kind, place, found);
+                StepReply {
+                    number: 0,
+                    what: 1,
+                    start: place,
+                    next,
+                    item,
+                    name_at: parts.name_at,
+                    name_len: parts.name_len,
+                    peeled_at: parts.peeled_at,
+                    error: 0,
+                    text_len: 0,
+                }
+            }
+            Step::Error {
+                fault: _,
+                item: number,
+                text,
+                next,
+                next_item: item,
+            } => StepReply {
+                number: 0,
+                what: 2,
+                start: place,
+                next,
+                item,
+                name_at: 0,
+                name_len: 0,
+                peeled_at: 0,
+                error: number,
+                text_len: text,
+            },
+        },
+        StepAnswer::UnknownKind => step_bare(1, 0, 0),
+        StepAnswer::TooLarge => step_bare(17, 0, 0),
+    }
+}
+
+// No item.
+fn step_bare(number: u32, next: usize, item: u64) -> StepReply
+    ensures { λ r. ⌜ r ≡ stepBare number next item ⌝ }
+{
+    StepReply {
+        number,
+        what: 0,
+        start: 0,
+        next,
+        item,
+        name_at: 0,
+        name_len: 0,
+        peeled_at: 0,
+        error: 0,
+        text_len: 0,
+    }
+}

@@ -1,0 +1,108 @@
+// What several replies have in common: where a record's parts stand, and a refusal with what stands beside its number.
+ghost use mathlib.Core.Path.{_≡_};
+ghost use Prim.Native.Nat.{_≤_};
+ghost use Rattle.decode.specs.Record.{faultNumber};
+ghost use Rattle.tell.specs.Told.{nameAt, peeledAt, partsGive, partsTold, refusalGives, refusalTold};
+use checks::Refusal;
+use decode::reference::Fault;
+use decode::reference::Record;
+use parse::limit::IdKind;
+
+// Where the parts of a record stand, counted where its start is counted.
+pub struct Parts {
+    pub name_at: usize,
+    pub name_len: usize,
+    // 0 where there is no peeled id.
+    pub peeled_at: usize,
+}
+
+// The parts of a record that starts at a place. Lent bytes end at the size limit, so a record in them has no place beyond it; for one that had, the
+// sums might not fit, and every part is 0.
+pub fn parts_at(kind: u32, place: usize, found: Record) -> Parts
+    ensures { λ r. ⌜ r ≡ partsTold kind place found ⌝ }
+{
+    if parse::limit::over_limit(place) {
+        return parts_give(0, 0, 0);
+    }
+    if parse::limit::over_limit(found.peeled) {
+        return parts_give(0, 0, 0);
+    }
+    parts_give(
+        name_at(kind, place),
+        found.name_len,
+        peeled_at(place, found.peeled),
+    )
+}
+
+fn parts_give(name: usize, len: usize, peeled: usize) -> Parts
+    ensures { λ r. ⌜ r ≡ partsGive name len peeled ⌝ }
+{
+    Parts {
+        name_at: name,
+        name_len: len,
+        peeled_at: peeled,
+    }
+}
+
+// Where the name stands of a record that starts at a place: behind the id and one space.
+fn name_at(kind: u32, place: usize) -> usize
+    requires { ⌜ place ≤ 1073741824 ⌝ }
+    ensures { λ r. ⌜ r ≡ nameAt kind place ⌝ }
+{
+    match parse::limit::digits(kind) {
+        IdKind::Digits(n) => place + n + 1,
+        IdKind::Unknown => place + 1,
+    }
+}
+
+// Where the peeled id stands, or 0 where there is none.
+fn peeled_at(place: usize, peeled: usize) -> usize
+    requires { ⌜ (place ≤ 1073741824) × (peeled ≤ 1073741824) ⌝ }
+    ensures { λ r. ⌜ r ≡ peeledAt place peeled ⌝ }
+{
+    if peeled == 0 {
+        return 0;
+    }
+    place + peeled
+}
+
+// A refusal's number and what stands beside it: a place, or the length of a text; else 0.
+pub struct Numbered {
+    pub number: u32,
+    pub place: usize,
+    pub text_len: usize,
+}
+
+// Why a file does not pass the check.
+pub fn refusal(why: Refusal) -> Numbered
+    ensures { λ r. ⌜ r ≡ refusalTold why ⌝ }
+{
+    match why {
+        Refusal::BadHeader(text) => refusal_gives(2, 0, text),
+        Refusal::BadRecord { place, fault } => refusal_gives(fault_number(fault), place, 0),
+        Refusal::Unsorted(place) => refusal_gives(6, place, 0),
+    }
+}
+
+pub fn refusal_gives(number: u32, place: usize, text: usize) -> Numbered
+    ensures { λ r. ⌜ r ≡ refusalGives number place text ⌝ }
+{
+    Numbered {
+        number,
+        place,
+        text_len: text,
+    }
+}
+
+// The paper's number for a part that can't be read.
+pub fn fault_number(fault: Fault) -> u32
+    ensures { λ r. ⌜ r ≡ faultNumber fault ⌝ }
+{
+    match fault {
+        Fault::Id => 4,
+        Fault::Space => 4,
+        Fault::LineEnd => 4,
+        Fault::Name => 4,
+        Fault::Peeled => 4,
+    }
+}
