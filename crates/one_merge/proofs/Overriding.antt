@@ -23,7 +23,7 @@ use Rattle.merge.proofs.InOrder.{same-greater, same-is, lower}
 none-named : (name : List ℕ) (l : List Entry) → Ascends name l → entryNamed name l ≡ none
 none-named name [] u = refl
 none-named name (r ∷ l) u =
-    rw (same-greater name (r .«name_len») (u .0)) (none-named name l (lower name (r .«name_len») l (u .0) (u .1)))
+    rw (same-greater name (r .name) (u .0)) (none-named name l (lower name (r .name) l (u .0) (u .1)))
 
 module _ (n : ℕ) where
   lower-edits : (low last : List ℕ) (l : List Override) → orderOf low last ≡ Less → Rises n last l → Rises n low l
@@ -73,7 +73,7 @@ module _ (n : ℕ) where
         }
 
     -- it is about the first
-    replace : (r : Entry) (rs : List Entry) → r .«name_len» ≡ e .name → Mixed (e .name) rs es l → Mixed last (r ∷ rs) (e ∷ es) (e .new ++ l)
+    replace : (r : Entry) (rs : List Entry) → r .name ≡ e .name → Mixed (e .name) rs es l → Mixed last (r ∷ rs) (e ∷ es) (e .new ++ l)
     replace r rs same-name m = record { sound = add rs m .sound; up = add rs m .up; named = λ name. add rs m .named name ∙ go name (sameName (e .name) name) refl }
       where
         go : (name : List ℕ) (t : Bool) → sameName (e .name) name ≡ t
@@ -82,13 +82,13 @@ module _ (n : ℕ) where
         go name false q = rw (same-name, q)
 
   -- the first old record is about no edit
-  keep : (last : List ℕ) (r : Entry) (rs : List Entry) (edits : List Override) (l : List Entry) → orderOf last (r .«name_len») ≡ Less → Sound n r
-      → Rises n (r .«name_len») edits → Mixed (r .«name_len») rs edits l → Mixed last (r ∷ rs) edits (r ∷ l)
-  keep last r rs edits l above s v m = record { sound = (s, m .sound); up = (above, m .up); named = λ name. go name (sameName (r .«name_len») name) refl }
+  keep : (last : List ℕ) (r : Entry) (rs : List Entry) (edits : List Override) (l : List Entry) → orderOf last (r .name) ≡ Less → Sound n r
+      → Rises n (r .name) edits → Mixed (r .name) rs edits l → Mixed last (r ∷ rs) edits (r ∷ l)
+  keep last r rs edits l above s v m = record { sound = (s, m .sound); up = (above, m .up); named = λ name. go name (sameName (r .name) name) refl }
     where
-      go : (name : List ℕ) (t : Bool) → sameName (r .«name_len») name ≡ t
+      go : (name : List ℕ) (t : Bool) → sameName (r .name) name ≡ t
           → if t (some r) (entryNamed name l) ≡ afterEdits name edits (if t (some r) (entryNamed name rs))
-      go name true q = sym (none-edited name edits (some r) (subst (λ (k : List ℕ). Rises n k edits) (same-is (r .«name_len») name q) v))
+      go name true q = sym (none-edited name edits (some r) (subst (λ (k : List ℕ). Rises n k edits) (same-is (r .name) name q) v))
       go name false q = m .named name
 
   pub mixed : (last : List ℕ) (olds : List Entry) (edits : List Override) → AllSound n olds → Ascends last olds → Rises n last edits
@@ -97,22 +97,22 @@ module _ (n : ℕ) where
   mixed last [] (e ∷ es) s u v = add last e es (overridden [] es) (v .0) (v .1) [] (mixed (e .name) [] es tt tt (v .2))
   mixed last (r ∷ rs) [] s u v = record { sound = s; up = u; named = λ name. refl }
   mixed last (r ∷ rs) (e ∷ es) s u v =
-      go (orderOf (r .«name_len») (e .name)) refl
-      (λ h. mixed (r .«name_len») rs (e ∷ es) (s .1) (u .1) h)
+      go (orderOf (r .name) (e .name)) refl
+      (λ h. mixed (r .name) rs (e ∷ es) (s .1) (u .1) h)
       (λ h. mixed (e .name) rs es (s .1) h (v .2))
       (λ h. mixed (e .name) (r ∷ rs) es s h (v .2))
     where
-      go : (o : Order) → orderOf (r .«name_len») (e .name) ≡ o
-          → (Rises n (r .«name_len») (e ∷ es) → Mixed (r .«name_len») rs (e ∷ es) (overridden rs (e ∷ es)))
+      go : (o : Order) → orderOf (r .name) (e .name) ≡ o
+          → (Rises n (r .name) (e ∷ es) → Mixed (r .name) rs (e ∷ es) (overridden rs (e ∷ es)))
           → (Ascends (e .name) rs → Mixed (e .name) rs es (overridden rs es))
           → (Ascends (e .name) (r ∷ rs) → Mixed (e .name) (r ∷ rs) es (overridden (r ∷ rs) es))
           → Mixed last (r ∷ rs) (e ∷ es)
           (byOrder o (r ∷ overridden rs (e ∷ es)) (e .new ++ overridden rs es) (e .new ++ overridden (r ∷ rs) es))
       go Less q less equal greater =
-          let w : Rises n (r .«name_len») (e ∷ es) = (q, v .1, v .2) in
+          let w : Rises n (r .name) (e ∷ es) = (q, v .1, v .2) in
           keep last r rs (e ∷ es) (overridden rs (e ∷ es)) (u .0) (s .0) w (less w)
       go Equal q less equal greater =
-          let k = order-equal (r .«name_len») (e .name) q in
+          let k = order-equal (r .name) (e .name) q in
           replace last e es (overridden rs es) (v .0) (v .1) r rs k (equal (rw k at (u .1)))
       go Greater q less equal greater =
-          add last e es (overridden (r ∷ rs) es) (v .0) (v .1) (r ∷ rs) (greater (greater-flip (r .«name_len») (e .name) q, u .1))
+          add last e es (overridden (r ∷ rs) es) (v .0) (v .1) (r ∷ rs) (greater (greater-flip (r .name) (e .name) q, u .1))

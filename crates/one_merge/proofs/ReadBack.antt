@@ -54,26 +54,26 @@ module _ {n : ℕ} {id : List ℕ} (digits : Digits n id) (name : List ℕ) (val
       ∙ plain-is paper n (lineThen id name rest) (line-head digits name valid rest) (λ z. other (sym (byte-behind digits name valid rest) ∙ z))
       ∙ good-alike (name-len digits name valid rest) refl (omega (arith, head-len digits name valid rest, first-len))
 
-  module _ {peeled : List ℕ} (more : Digits n peeled) (rest : List ℕ) where
+  module _ {peeled-id : List ℕ} (more : Digits n peeled-id) (rest : List ℕ) where
     abbrev second : List ℕ
-    second = peeledLine peeled ++ rest
+    second = peeledLine peeled-id ++ rest
 
     abbrev both : List ℕ
     both = lineThen id name second
 
-    second-laid : second ≡ 94 ∷ (peeled ++ 10 ∷ rest)
+    second-laid : second ≡ 94 ∷ (peeled-id ++ 10 ∷ rest)
     second-laid = simp append-assoc
 
     peel : Peel paper n (drop (headLen paper n both) both)
     peel = rw (behind-head digits name valid second, second-laid) (line-peel more rest)
 
-    second-len : peelLen paper n (drop (headLen paper n both) both) ≡ length (peeledLine peeled)
+    second-len : peelLen paper n (drop (headLen paper n both) both) ≡ length (peeledLine peeled-id)
     second-len =
         rw (behind-head digits name valid second, second-laid)
-        (omega (arith, peel-len more rest, length-append peeled (10 ∷ []), more .long))
+        (omega (arith, peel-len more rest, length-append peeled-id (10 ∷ []), more .long))
 
     read-peeled : recordOf paper n (recordLine id name ++ second)
-        ≡ Good (record { «name_len» = length name; peeled = suc (length (recordLine id name)); size = length (recordLine id name) + length (peeledLine peeled) })
+        ≡ Good (record { «name_len» = length name; peeled = suc (length (recordLine id name)); size = length (recordLine id name) + length (peeledLine peeled-id) })
     read-peeled =
         let h : headLen paper n both ≡ length (recordLine id name) = omega (arith, head-len digits name valid second, first-len) in
         ap (recordOf paper n) (laid id name second)
@@ -84,8 +84,8 @@ module _ {n : ℕ} {id : List ℕ} (digits : Digits n id) (name : List ℕ) (val
       → recordOf paper n ((recordLine id name ++ peeledLines o) ++ rest)
       ≡ Good (record { «name_len» = length name; peeled = peeledPlace (length (recordLine id name)) o; size = length (recordLine id name ++ peeledLines o) })
   read-lines none d rest other = rw (append-nil (recordLine id name)) (read-plain rest other)
-  read-lines (some peeled) d rest other =
-      rw (append-assoc (recordLine id name) (peeledLine peeled) rest, length-append (recordLine id name) (peeledLine peeled)) (read-peeled d rest)
+  read-lines (some peeled-id) d rest other =
+      rw (append-assoc (recordLine id name) (peeledLine peeled-id) rest, length-append (recordLine id name) (peeledLine peeled-id)) (read-peeled d rest)
 
 -- a record without a peeled id ends where no `^` follows
 pub read-one : (n : ℕ) (e : Entry) → Sound n e → (rest : List ℕ) → (getD rest 0 0 ≡ 94 → ⊥) → recordOf paper n (linesOf e ++ rest) ≡ Good (readingOf e)
@@ -114,8 +114,8 @@ module _ (n : ℕ) (e : Entry) (s : Sound n e) where
 
   peeled-back : (o : Option (List ℕ)) → DigitsIf n o → peeledAt n (first ++ peeledLines o) (peeledPlace (length first) o) ≡ o
   peeled-back none d = refl
-  peeled-back (some peeled) d =
-      ap some (ap (take n) (behind first 94 (peeled ++ 10 ∷ []) (length first) refl) ∙ take-at peeled (10 ∷ []) n (d .long))
+  peeled-back (some peeled-id) d =
+      ap some (ap (take n) (behind first 94 (peeled-id ++ 10 ∷ []) (length first) refl) ∙ take-at peeled-id (10 ∷ []) n (d .long))
 
   pub entry-back : entryOf n (written e) ≡ e
   entry-back = λ i. record { name = name-back i; id = id-back i; peeled = peeled-back (e .peeled) (s .peeled) i }

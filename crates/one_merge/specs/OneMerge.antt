@@ -26,7 +26,7 @@ use Rattle.merge.specs.Merge.{overridden, newFile, oldEntries, editsInOrder, me
 -- the record of a name
 abbrev pub entryNamed : List ℕ → List Entry → Option Entry
 entryNamed name [] = none
-entryNamed name (r ∷ rs) = if (sameName (r .«name_len») name) (some r) (entryNamed name rs)
+entryNamed name (r ∷ rs) = if (sameName (r .name) name) (some r) (entryNamed name rs)
 
 -- what an edit leaves: the record of an update, nothing of a delete
 abbrev pub leftBy : List Entry → Option Entry
