@@ -11,6 +11,8 @@ use Rattle.parse.specs.declared.limit.Admission.{Admission}
 use Rattle.parse.specs.declared.limit.Admission.the-variants as admitted
 use Rattle.parse.specs.Limit.{overLimit, admission}
 use Rattle.class.specs.Class.{paper}
+use Rattle.name.specs.Name.{validName}
+use Rattle.reply_file.specs.Head.{nameNumber}
 use Rattle.decode.specs.declared.reference.Fault.{Fault}
 use Rattle.decode.specs.declared.reference.Fault.the-variants.{Id, Space, LineEnd, Name, Peeled}
 use Rattle.decode.specs.Record.{faultNumber}
@@ -80,6 +82,15 @@ header-number : (a : HeaderAnswer) → AnsweredBy (headerNumber a) (0 ∷ 17 ∷
 header-number (headed.Done (opened.Header h)) = refl
 header-number (headed.Done (opened.Unreadable k)) = refl
 header-number headed.TooLarge = refl
+
+name-number : (name : List ℕ) → AnsweredBy (nameNumber name) (0 ∷ 17 ∷ 3 ∷ [])
+unfolding nameNumber
+name-number name = go (overLimit (length name)) (validName paper name)
+  where
+    go : (large valid : Bool) → AnsweredBy (if large 17 (if valid 0 3)) (0 ∷ 17 ∷ 3 ∷ [])
+    go true valid = refl
+    go false true = refl
+    go false false = refl
 
 start-number : (a : StartAnswer) → AnsweredBy (startNumber a) (0 ∷ 1 ∷ 17 ∷ 2 ∷ [])
 start-number (started.Done (start.At place item)) = refl
@@ -254,6 +265,7 @@ demand-1 =
       numbered =
           record {
             header = λ file. header-number (headerAnswer file);
+            name = name-number;
             start = λ kind file. start-number (startAnswer kind file);
             step = λ kind prefix bytes place item. step-number (stepAnswer kind prefix bytes place item);
             check = λ kind file. check-number (checkAnswer kind file);

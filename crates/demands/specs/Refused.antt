@@ -15,6 +15,7 @@ use Rattle.ask.specs.Ask.{askAnswer, askNumber}
 use Rattle.find.specs.Lookup.{lookupAnswer, lookupNumber}
 use Rattle.find.specs.PrefixStart.{prefixStartAnswer, prefixStartNumber}
 use Rattle.loose.specs.Loose.{looseAnswer, looseNumber}
+use Rattle.reply_file.specs.Head.{nameNumber}
 use Rattle.edits.specs.List.{Listed, all, editsOf, inOrder}
 use Rattle.merge.specs.declared.Merged.the-variants.{Done}
 use Rattle.merge.specs.Merge.{mergeAnswer, mergeNumber, outputAfter, indexAnswer}
@@ -30,6 +31,7 @@ AnsweredBy number l = isOneOf number l ≡ true
 
 pub record Numbered : Type 0 where
   pub header : (file : List ℕ) → AnsweredBy (headerNumber (headerAnswer file)) (0 ∷ 17 ∷ 2 ∷ [])
+  pub name : (name : List ℕ) → AnsweredBy (nameNumber name) (0 ∷ 17 ∷ 3 ∷ [])
   pub start : (kind : ℕ) (file : List ℕ) → AnsweredBy (startNumber (startAnswer kind file)) (0 ∷ 1 ∷ 17 ∷ 2 ∷ [])
   pub step : (kind : ℕ) (prefix bytes : List ℕ) (place item : ℕ) → AnsweredBy (stepNumber (stepAnswer kind prefix bytes place item)) (0 ∷ 1 ∷ 17 ∷ [])
   pub check : (kind : ℕ) (file : List ℕ) → AnsweredBy (checkNumber (checkAnswer kind file)) (0 ∷ 1 ∷ 17 ∷ 2 ∷ 4 ∷ 6 ∷ [])
