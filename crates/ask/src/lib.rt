@@ -45,7 +45,7 @@ pub fn ask(kind: u32, file: &[u8], name: &[u8]) -> AskAnswer
     }
 }
 
-// The same by a table of byte classes and for ids of n digits.
+// The same for ids of n digits, using a table of byte classes that the caller lends.
 pub fn ask_using(t: &[u8; 256], n: usize, file: &[u8], name: &[u8]) -> Told
     ensures { λ r. ⌜ r ≡ askOf (classesOf (now (t .entry))) n (now (file .entry)) (now (name .entry)) ⌝ }
 {
@@ -58,8 +58,8 @@ pub fn ask_using(t: &[u8; 256], n: usize, file: &[u8], name: &[u8]) -> Told
     }
 }
 
-// The check from a place on, in one pass, in which a record of the name ends all. At the first fault only the name is looked for
-// from there on.
+// One pass from a place on that checks the records and looks for the name at once. A record of the name ends it. From the first fault on the name
+// alone is looked for.
 pub(crate) fn ask_body(t: &[u8; 256], n: usize, file: &[u8], body: usize, name: &[u8]) -> Told
     ensures { λ r. ⌜ r ≡ askBody (classesOf (now (t .entry))) n (now (file .entry)) body (now (name .entry)) ⌝ }
 {
@@ -85,7 +85,7 @@ pub(crate) fn ask_body(t: &[u8; 256], n: usize, file: &[u8], body: usize, name: 
     }
 }
 
-// The first record of a name from a place on, whatever stands between.
+// The first record of a name from a place on, whatever stands before it.
 pub(crate) fn first_named(t: &[u8; 256], n: usize, file: &[u8], from: usize, name: &[u8]) -> Sought
     ensures { λ r. ⌜ r ≡ soughtFrom (classesOf (now (t .entry))) n (now (file .entry)) from (now (name .entry)) ⌝ }
 {

@@ -29,8 +29,8 @@ orElse (Good r) place verdict = verdict
 orElse (Bad f) place verdict = Refused (BadRecord place f)
 
 -- "iterate; the first item that is an error (4) or whose name isn't greater, byte by byte, than the one before (6) is answered
--- with its place; else 0 and the record count". The items begin at a place; count records stood before them, the last of them
--- named last. Before the first there is no name, and every name is greater than none
+-- with its place; else 0 and the record count". The items begin at a place. So many records (count) stood
+-- before them, and the last of those has the name last. Before the first record last is empty: every name is greater than that
 abbrev pub judge : ℕ → ℕ → ℕ → List ℕ → List Item → Verdict
 judge n place count last [] = Clean count
 judge n place count last (i ∷ l) =
@@ -68,7 +68,7 @@ checkNumber (Done (Refused why)) = refusalNumber why
 checkNumber UnknownKind = 1
 checkNumber TooLarge = 17
 
--- ---- one turn of a pass that checks: what stands at a place, behind a record of the name last
+-- ---- one turn of a pass that checks: what stands at a place, where last is the name of the record before it
 
 abbrev pub turnBy : ℕ → List ℕ → List ℕ → ℕ → Reading → Turn
 turnBy n last rest place (Good r) = if (smaller last (nameIn n (Good r) rest)) (turn.On r) (turn.Refused (Unsorted place))

@@ -21,8 +21,8 @@ abbrev pub allGood : List Item → Bool
 allGood [] = true
 allGood (i ∷ l) = isGood (i .what) && allGood l
 
--- each name is greater, byte by byte, than the one before; last is the name before the first. Before all of them there is no name, and
--- every valid name is greater than none
+-- each name is greater, byte by byte, than the one before it. last is the name before the first item, and empty where there is none: every valid
+-- name is greater than that
 abbrev pub ascending : ℕ → List ℕ → List Item → Type 0
 ascending n last [] = Unit {0}
 ascending n last (i ∷ l) = (orderOf last (nameOf n i) ≡ Less) × ascending n (nameOf n i) l

@@ -8,7 +8,7 @@ use decode::reference::Record;
 use header::Opened;
 use parse::limit::Admission;
 
-// Why a file does not pass: whoever checks one, alone or beside something else, gives this value on.
+// Why a file does not pass the check. Every function that checks a file, be it to merge it or to look up a name, hands on this value.
 pub enum Refusal {
     // A first line that begins with # and is no header: the length of its text.
     BadHeader(usize),
@@ -19,7 +19,7 @@ pub enum Refusal {
 }
 
 pub enum Verdict {
-    // The file passes; so many records.
+    // The file passes, and has so many records.
     Clean(usize),
     Refused(Refusal),
 }
@@ -43,7 +43,7 @@ pub fn check(kind: u32, file: &[u8]) -> CheckAnswer
     }
 }
 
-// The same by a table of byte classes and for ids of n digits.
+// The same for ids of n digits, using a table of byte classes that the caller lends.
 pub fn check_using(t: &[u8; 256], n: usize, file: &[u8]) -> Verdict
     ensures { λ r. ⌜ r ≡ checkOf (classesOf (now (t .entry))) n (now (file .entry)) ⌝ }
 {
@@ -83,11 +83,11 @@ pub enum Turn {
     End,
     // A record whose name is greater than the one before.
     On(Record),
-    // No record, or one whose name is not.
+    // An item that is no record, or a record whose name is not greater.
     Refused(Refusal),
 }
 
-// One turn of every pass that checks: what stands at a place, behind a record of the name last.
+// One turn of every pass that checks: what stands at a place. `last` is the name of the record before it, and empty before the first.
 pub fn take_turn(t: &[u8; 256], n: usize, file: &[u8], place: usize, last: &[u8]) -> Turn
     ensures { λ r. ⌜ r ≡ turnOf (classesOf (now (t .entry))) n (now (file .entry)) place (now (last .entry)) ⌝ }
 {

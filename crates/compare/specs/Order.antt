@@ -7,7 +7,7 @@ use Rattle.compare.specs.declared.order.Order.{Order}
 use Rattle.compare.specs.declared.order.Order.the-variants.{Less, Equal, Greater}
 use Rattle.parse.specs.Choice.{if}
 
--- byte by byte; where one ends first and they were alike, it is the smaller
+-- byte by byte; where the two are alike until one of them ends, the one that ends first is the smaller
 abbrev pub orderOf : List ℕ → List ℕ → Order
 orderOf [] [] = Equal
 orderOf [] (y ∷ b) = Less

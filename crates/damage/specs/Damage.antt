@@ -69,8 +69,8 @@ recordsIn (g ∷ l) = recordBy (g .what) (recordsIn l)
 abbrev pub handedOut : ℕ → List ℕ → List Given
 handedOut n file = outOf (readOf paper n file)
 
--- an error that covers one line, which begins at a place; and the records that are spoken of begin behind that line, which stood at a place
--- in the file before
+-- g is an error that covers exactly one line. In the damaged file that line begins at the place here; in the file before it began at the place
+-- there, and the records begin behind it: none of them has a part in the line
 pub record Aside (g : Given) (here there line : ℕ) (records : List Given) : Type 0 where
   pub begins : g .place ≡ here
   pub ends : g .next ≡ here + line
@@ -105,9 +105,9 @@ pub record Kept (kind n : ℕ) (header kept run other rest : List ℕ) : Type 0 
   pub starts : startAnswer kind (whole header kept other rest) ≡ started.Done (startOf paper (whole header kept other rest))
   pub steps : (place item : ℕ)
       → stepAnswer kind [] (whole header kept other rest) place item ≡ stepped.Done (stepOf paper n [] (whole header kept other rest) place item)
-  -- at the same place and with the same number as before
+  -- it starts at the same place and with the same item number as before
   pub start : startOf paper (whole header kept other rest) ≡ startOf paper (whole header kept run rest)
-  -- to the end
+  -- the reading comes to the end
   pub last : ℕ
   pub end : stopOf (readOf paper n (whole header kept other rest)) ≡ ended (length (whole header kept other rest)) last
   -- what is handed out of the file before is records alone

@@ -38,7 +38,7 @@ pub record Checked (kind : ℕ) (file : List ℕ) : Type 0 where
   pub header : Header
   pub reads : headerAnswer file ≡ headed.Done (opened.Header header)
 
--- the bytes behind the header, which lookup and listing are lent
+-- the bytes behind the header, which the lookup and the prefix iteration are lent
 abbrev pub bodyOf : {kind : ℕ} {file : List ℕ} → Checked kind file → List ℕ
 bodyOf {file = file} c = drop (c .header .body) file
 
@@ -49,7 +49,7 @@ pub record In (g : Given) (l : List Given) : Type 0 where
   pub after : List Given
   pub all : l ≡ before ++ g ∷ after
 
--- it is a record, and has a name
+-- what was handed out is a record of the wanted name
 abbrev pub Has : List ℕ → Handed → Type 0
 Has wanted (good id name) = name ≡ wanted
 Has wanted (peeled id name peeledId) = name ≡ wanted
@@ -75,7 +75,7 @@ module _ (kind n : ℕ) (file : List ℕ) (c : Checked kind file) (name : List �
     -- and no other number is given
     pub answers : (lookupNumber (lookupAnswer kind (bodyOf c) name) ≡ 0) ⊎ (lookupNumber (lookupAnswer kind (bodyOf c) name) ≡ 5)
 
--- ---- the listing
+-- ---- the prefix iteration
 
 -- of what was handed out, the records whose names begin with a prefix
 abbrev pub wantedBy : List ℕ → Handed → List Handed → List Handed
@@ -89,7 +89,7 @@ wanted prefix (h ∷ l) = wantedBy prefix h (wanted prefix l)
 
 module _ (kind n : ℕ) (file : List ℕ) (c : Checked kind file) (prefix : List ℕ) where
   pub record ListedIfWanted : Type 0 where
-    -- where the listing starts
+    -- where the prefix iteration starts
     pub place : ℕ
     pub starts : prefixStartAnswer kind (bodyOf c) prefix ≡ listed.Done (From place 1)
     -- each step from there on answers what the run is made of

@@ -20,7 +20,7 @@ pub struct Edit {
 
 // Why an edit can't be taken.
 pub enum EditFault {
-    // The kind is unknown, the length has no form that a length has, or the edit is cut short.
+    // The kind is unknown, the length can't be read, or the edit is cut short.
     Malformed,
     // A name that is empty, too long, or breaks the name rules.
     BadName,

@@ -52,7 +52,7 @@ module _ (byte : Classes) (n : ℕ) (list : List ℕ) where
   unfoldable pub editsOf : Listed
   editsOf = editsFrom 4096 0
 
--- the number of edits, k counted before
+-- the number of edits, where k edits were counted before these; or the first fault
 abbrev pub counted : ℕ → Listed → Edits
 counted k (all l) = edits.Count (k + length l)
 counted k (bad why) = edits.Bad why

@@ -11,7 +11,7 @@ use edit::EditReading;
 use places::name::Layout;
 use sort::twin::Twin;
 
-// The first fault of a list: whoever reads one gives this value on.
+// The first fault of a list. The preparation and the merge hand on this value.
 pub enum ListFault {
     // The first edit that can't be taken: where it starts, and why.
     BadEdit { place: usize, fault: EditFault },
@@ -25,7 +25,7 @@ pub enum Edits {
     Bad(ListFault),
 }
 
-// What comes of a list and an index: the index is in name order, or it can't be.
+// What comes of a list and an index: the index holds all edits in name order, each of another name, or why that can't be.
 pub enum Prepared {
     // So many edits, all of different names.
     Ready(usize),

@@ -21,7 +21,7 @@ abbrev pub placeOf : Halved → ℕ
 placeOf (Hit place) = place
 placeOf (Miss place failed) = place
 
--- places are told in the whole lent bytes
+-- a start that was found in the bytes from a place on, with its place counted in the whole lent bytes
 abbrev pub shifted : ℕ → Start → PrefixStart
 shifted place (start.At behind item) = From (place + behind) item
 shifted place (start.BadHeader text) = BadHeader place text

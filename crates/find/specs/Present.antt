@@ -1,4 +1,4 @@
--- What lookup and listing mean.
+-- What lookup and prefix iteration mean.
 use mathlib.Core.Path.{_≡_}
 use mathlib.Core.Bool.{false}
 use mathlib.Core.List.{List, [], _∷_}
@@ -46,7 +46,7 @@ abbrev pub withPrefix : ℕ → List ℕ → List Item → List Item
 withPrefix n prefix [] = []
 withPrefix n prefix (i ∷ l) = if (begins prefix (nameOf n i)) (i ∷ withPrefix n prefix l) (withPrefix n prefix l)
 
--- who steps on with the prefix, from the place and the number that the listing starts with, is handed those records; then the end is said
+-- a caller who steps with the prefix from the place and the item number of the start is handed those records, and then the end
 pub record ListsExactly (n : ℕ) (s prefix : List ℕ) : Type 0 where
   pub place : ℕ
   pub start : prefixStartOf paper n s prefix ≡ From place 1

@@ -1,3 +1,3 @@
-// Lookup of one name in a checked body, and prefix listing.
+// Lookup of one name in a checked body, and where a prefix iteration starts.
 pub mod lookup;
 pub mod prefix_start;

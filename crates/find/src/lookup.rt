@@ -11,7 +11,7 @@ use search::Halved;
 pub enum Lookup {
     // The record of that name, and where it starts.
     Charted { place: usize, found: Record },
-    // The record that was hit can't be read: where it starts, and its first part that can't.
+    // The record that was hit can't be read: where it starts, and the first part that can't be read.
     BadRecord { place: usize, fault: Fault },
     // No record was hit, but a probe met a shape that fails: nothing is known.
     Unsure,
@@ -40,7 +40,7 @@ pub fn find(kind: u32, body: &[u8], name: &[u8]) -> LookupAnswer
     }
 }
 
-// The same by a table of byte classes and for ids of n digits.
+// The same for ids of n digits, using a table of byte classes that the caller lends.
 pub fn find_using(t: &[u8; 256], n: usize, body: &[u8], name: &[u8]) -> Lookup
     ensures { λ r. ⌜ r ≡ lookupOf (classesOf (now (t .entry))) n (now (body .entry)) (now (name .entry)) ⌝ }
 {

@@ -1,4 +1,4 @@
-// Where the listing of a prefix starts; then iter's step goes on with the same prefix.
+// Where a prefix iteration starts. From there the caller goes on by `iter::step`, with the same prefix.
 ghost use mathlib.Core.Path.{_≡_};
 ghost use Prim.Native.Nat.{_≤_};
 ghost use lib.ListN.{length};
@@ -11,7 +11,7 @@ use start::Start;
 pub enum PrefixStart {
     // The place that the first step is taken from, and its item number.
     From { place: usize, item: u64 },
-    // The part that it starts on begins with # and has no header: where that is, and the length of its text.
+    // The bytes from the start on begin with #, and with no header: where they begin, and the length of that text.
     BadHeader { place: usize, text: usize },
 }
 
@@ -34,7 +34,7 @@ pub fn begin(kind: u32, body: &[u8], prefix: &[u8]) -> PrefixStartAnswer
     }
 }
 
-// The same by a table of byte classes and for ids of n digits. A remembered failure is ignored.
+// The same for ids of n digits, using a table of byte classes that the caller lends. Whether a probe failed is not asked.
 pub fn begin_using(t: &[u8; 256], n: usize, body: &[u8], prefix: &[u8]) -> PrefixStart
     ensures { λ r. ⌜ r ≡ prefixStartOf (classesOf (now (t .entry))) n (now (body .entry)) (now (prefix .entry)) ⌝ }
 {
@@ -44,7 +44,7 @@ pub fn begin_using(t: &[u8; 256], n: usize, body: &[u8], prefix: &[u8]) -> Prefi
     }
 }
 
-// The start on the part from a place on.
+// The start, where the search came to a place: the bytes from there on are looked at for a header.
 fn begin_from(t: &[u8; 256], body: &[u8], place: usize) -> PrefixStart
     requires { ⌜ place ≤ length (now body) ⌝ }
     ensures { λ r. ⌜ r ≡ prefixStartFrom (classesOf (now (t .entry))) (now (body .entry)) place ⌝ }

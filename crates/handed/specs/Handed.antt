@@ -1,4 +1,4 @@
--- What a step hands out: a record by its id, its name and its peeled id, an error by its number and its text; each with its place.
+-- What a step hands out: a record by its id, its name and its peeled id, an error by its item number and its text; each with its place.
 use mathlib.Core.List.{List, [], _∷_}
 use Prim.Native.Nat.{ℕ, zero, suc, _+_, _-_}
 use lib.ListN.{length, take, drop}
@@ -32,7 +32,7 @@ partsBy n bytes name (suc at) = peeled (take n bytes) name (take n (drop (suc at
 abbrev pub partsOf : ℕ → List ℕ → Record → Handed
 partsOf n bytes r = partsBy n bytes (take (r .«name_len») (drop (n + 1) bytes)) (r .peeled)
 
--- ---- the items of a body, handed out one after another: the first stands at a place and has a number
+-- ---- the items of a body, handed out one after another: the first stands at a place and has an item number
 
 -- "It gives the number and the covered bytes less the last one"
 abbrev pub handedBy : ℕ → ℕ → List ℕ → Reading → Handed

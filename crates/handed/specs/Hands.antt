@@ -36,7 +36,7 @@ raised item (i ∷ l) = raised (more item) l
 abbrev pub allOf : ℕ → ℕ → ℕ → ℕ → List Item → Run
 allOf n len place item l = record { out = handed n place item l; stop = ended len (raised item l) }
 
--- with a step for every byte from the place on, and one for the end. A caller may take more: the end has been said by then
+-- more turns than there are bytes from the place on are enough: each item takes one byte at least, and the end takes a turn
 pub record HandsOut (byte : Classes) (n : ℕ) (prefix s : List ℕ) (place item : ℕ) : Type 0 where
   pub all : (turns : ℕ) → length s - place < turns
       → runOf byte n prefix s turns place item ≡ allOf n (length s) place item (upToOther n prefix (items byte n (drop place s)))

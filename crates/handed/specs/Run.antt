@@ -11,7 +11,7 @@ use Rattle.iter.specs.declared.step.Step.the-variants.{End, Good, Error}
 use Rattle.iter.specs.Step.{stepOf}
 use Rattle.handed.specs.Handed.{Given, given, error, partsOf}
 
--- how it came to its end: a step said so, with the next place and the number that it gave; or the caller made no further step
+-- how it came to its end: a step said so, with the next place and the item number that it gave; or the caller made no further step
 pub data Stop : Type 0 where
   ended : (place item : ℕ) → Stop
   unfinished : Stop
@@ -23,8 +23,8 @@ pub record Run : Type 0 where
 abbrev pub onto : Given → Run → Run
 onto g r = record { out = g ∷ r .out; stop = r .stop }
 
--- ---- so many steps at most, from a place with a number, over the bytes s with a prefix: each goes on with the place and the number that the one
--- before it told. A record is told by places counted from the step's own, and an error's text begins there
+-- ---- so many steps at most, from a place with an item number, over the bytes s with a prefix: each goes on with the next place and the next item
+-- number that the one before it told. A record is told by places counted from the step's own, and an error's text begins there
 
 module _ (byte : Classes) (n : ℕ) (prefix s : List ℕ) where
   unfoldable pub runOf : ℕ → ℕ → ℕ → Run

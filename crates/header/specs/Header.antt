@@ -24,7 +24,7 @@ mark = 35 ∷ 32 ∷ 112 ∷ 97 ∷ 99 ∷ 107 ∷ 45 ∷ 114 ∷ 101 ∷ 102 �
 
 -- ---- tokens
 
--- a byte put before the first of some words
+-- a byte put in front of the first word of a list; where there is no word, it becomes one
 abbrev pub onFirst : ℕ → List (List ℕ) → List (List ℕ)
 onFirst b [] = (b ∷ []) ∷ []
 onFirst b (w ∷ l) = (b ∷ w) ∷ l

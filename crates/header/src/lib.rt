@@ -1,4 +1,4 @@
-// The header: the first line of a file that begins with #.
+// The header: the first line of a file, where that begins with #.
 ghost use mathlib.Core.Path.{_≡_};
 ghost use mathlib.Core.Bool.{not};
 ghost use Prim.Native.Nat.{_+_};
@@ -23,7 +23,8 @@ pub struct Header {
     pub body: usize,
 }
 
-// A file's header, or the length of the first line, which begins with # and is none.
+// How a file opens. Where its first byte is no # there is no header, which counts as a header that says nothing. A first line that begins with
+// # but is no header is unreadable: then the length of its text is told.
 pub enum Opened {
     Header(Header),
     Unreadable(usize),
@@ -63,7 +64,7 @@ pub fn open(t: &[u8; 256], file: &[u8]) -> Opened
     Opened::Header(note_tokens(parse::part::between(file, 18, end), plain(next)))
 }
 
-// Nothing known yet.
+// A header that says nothing, with the body from a place on.
 fn plain(body: usize) -> Header
     ensures { λ r. ⌜ r ≡ plainHeader body ⌝ }
 {
@@ -93,7 +94,7 @@ fn first_line(s: &[u8]) -> usize
     i
 }
 
-// What the header says after its tokens, which lie between single spaces, one after another.
+// What a header says once every token of a text was noted, from the first to the last. Tokens are split at single spaces.
 fn note_tokens(text: &[u8], before: Header) -> Header
     ensures { λ r. ⌜ r ≡ allNoted (tokens (now (text .entry))) before ⌝ }
 {
@@ -123,7 +124,7 @@ fn token_end(s: &[u8], at: usize) -> usize
     i
 }
 
-// What the header says after one token.
+// What a header says once one more token was noted.
 fn note(before: Header, token: &[u8]) -> Header
     ensures { λ r. ⌜ r ≡ noted (now (token .entry)) before ⌝ }
 {

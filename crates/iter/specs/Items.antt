@@ -9,7 +9,7 @@ use Rattle.decode.specs.declared.reference.Reading.{Reading}
 use Rattle.decode.specs.declared.reference.Reading.the-variants.{Good, Bad}
 use Rattle.decode.specs.Record.{recordOf}
 
--- what was read, and the bytes that it covers. An item has no place: where it stands does not change it
+-- what was read, and the bytes that it covers. An item does not hold its place, so the same bytes are the same item wherever they stand
 pub record Item : Type 0 where
   pub what : Reading
   pub bytes : List ℕ
@@ -27,7 +27,7 @@ module _ (byte : Classes) (n : ℕ) where
   abbrev pub itemOf : List ℕ → Item
   itemOf s = record { what = recordOf byte n s; bytes = take (sizeOf s) s }
 
-  -- the items behind the next k bytes, which belong to an item that was read
+  -- the items of s behind its first k bytes. Those bytes are the rest of the item before, which is passed over byte by byte
   unfoldable pub itemsBehind : ℕ → List ℕ → List Item
   itemsBehind k [] = []
   itemsBehind (suc k) (b ∷ s) = itemsBehind k s

@@ -23,7 +23,7 @@ pub record Stands (byte : Classes) (n : ℕ) (s : List ℕ) (place : ℕ) (it : 
   pub all : items byte n s ≡ before ++ it ∷ after
   pub here : length (bytesOf before) ≡ place
 
--- a record of the name stands there
+-- in the body s the good record r stands at a place, and this is its name
 pub record Named (n : ℕ) (s name : List ℕ) (place : ℕ) (r : Record) : Type 0 where
   pub it : Item
   pub stands : Stands paper n s place it

@@ -9,7 +9,7 @@ use decode::reference::Record;
 use parse::limit::Admission;
 
 pub enum Step {
-    // Nothing more: the length as next place, the number as it came.
+    // There is no further item: the length as next place, the item number as it came.
     End {
         next: usize,
         next_item: u64,
@@ -20,7 +20,7 @@ pub enum Step {
         next: usize,
         next_item: u64,
     },
-    // A bad one: its item number, and the length of its text, which begins at the place.
+    // No record can be read at the place: the error's item number, and the length of its text, which begins at the place.
     Error {
         fault: Fault,
         item: u64,
@@ -57,7 +57,7 @@ pub fn next_with_prefix(kind: u32, s: &[u8], prefix: &[u8], place: usize, item: 
     }
 }
 
-// The same by a table of byte classes and for ids of n digits.
+// The same for ids of n digits, using a table of byte classes that the caller lends.
 pub fn next_using(t: &[u8; 256], n: usize, prefix: &[u8], s: &[u8], place: usize, item: u64) -> Step
     ensures { λ r. ⌜ r ≡ stepOf (classesOf (now (t .entry))) n (now (prefix .entry)) (now (s .entry)) place item ⌝ }
 {

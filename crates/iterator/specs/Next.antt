@@ -24,7 +24,7 @@ nextItem (Error f item text next following) = following
 abbrev pub answerOf : Iter → StepAnswer
 answerOf it = stepAnswer (it .kind) (now (it .prefix)) (now (it .s)) (it .place) (it .item)
 
--- where an answer leaves an iteration that stood at a place with a number: a refusal leaves both as they came
+-- where an answer leaves an iteration that stood at a place with an item number: a refusal leaves both as they came
 abbrev pub placeAfter : ℕ → StepAnswer → ℕ
 placeAfter place (Done r) = nextPlace r
 placeAfter place UnknownKind = place
@@ -39,6 +39,6 @@ itemAfter item TooLarge = item
 abbrev pub steppedFrom : ℕ → ℕ → StepAnswer → Stepped
 steppedFrom place item answer = record { answer = answer; place = placeAfter place answer; item = itemAfter item answer }
 
--- the iteration behind its step: the same kind, bytes and prefix, at the next place, with the next number
+-- the iteration behind its step: the same kind, bytes and prefix, at the next place, with the next item number
 abbrev pub nextIter : Iter → Iter
 nextIter it = record { kind = it .kind; s = it .s; prefix = it .prefix; place = placeAfter (it .place) (answerOf it); item = itemAfter (it .item) (answerOf it) }

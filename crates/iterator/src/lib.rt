@@ -15,7 +15,7 @@ pub struct Iter<'a> {
     pub item: u64,
 }
 
-// What a step answers, and the place and the number that it leaves an iteration at.
+// What a step answers, and the place and the item number that it leaves an iteration at.
 pub struct Stepped {
     pub answer: StepAnswer,
     pub place: usize,
@@ -70,7 +70,7 @@ pub(crate) fn step<'a>(kind: u32, s: &'a [u8], prefix: &'a [u8], place: usize, i
     )
 }
 
-// An answer's next place and next number; a refusal leaves both as they came.
+// An answer's next place and next item number; a refusal leaves both as they came.
 pub(crate) fn goes_on(place: usize, item: u64, answer: StepAnswer) -> Stepped
     ensures { λ r. ⌜ r ≡ steppedFrom place item answer ⌝ }
 {

@@ -46,7 +46,7 @@ pub fn read(kind: u32, content: &[u8]) -> LooseAnswer
     }
 }
 
-// The same by a table of byte classes and for ids of n digits.
+// The same for ids of n digits, using a table of byte classes that the caller lends.
 pub fn read_using(t: &[u8; 256], n: usize, content: &[u8]) -> Loose
     ensures { λ r. ⌜ r ≡ looseOf (classesOf (now (t .entry))) n (now (content .entry)) ⌝ }
 {
@@ -65,8 +65,8 @@ pub fn read_using(t: &[u8; 256], n: usize, content: &[u8]) -> Loose
     Loose::Unreadable
 }
 
-// The target of a symbolic reference, as that part of the lent content. Of a place and a length that no answer told,
-// as far as there are bytes.
+// The target of a symbolic reference, as that part of the lent content. A place and a length that no answer told give as many bytes as there are
+// in that part.
 pub fn target_of(content: &[u8], from: usize, len: usize) -> &[u8]
     ensures { λ r. ⌜ now r ≡ take len (drop from (now (content .entry))) ⌝ }
 {

@@ -30,7 +30,7 @@ entriesOf n (i ∷ l) = entryOf n i ∷ entriesOf n l
 
 -- ---- edits
 
--- the name that it is about, and what stands in the place of the record of that name: nothing after a delete, one record after an update
+-- what an edit does: it has a name, and in place of the old record of that name it puts new ones, none for a delete and one for an update
 pub record Override : Type 0 where
   pub name : List ℕ
   pub new : List Entry
@@ -42,7 +42,7 @@ newOf zero name id peeled = []
 newOf (suc zero) name id peeled = record { name = name; id = hexText id; peeled = none } ∷ []
 newOf (suc (suc kind)) name id peeled = record { name = name; id = hexText id; peeled = some (hexText peeled) } ∷ []
 
--- the edit at a place of the list
+-- what the edit at a place of the list does
 abbrev pub editAt : ℕ → List ℕ → ℕ → Override
 editAt n list place =
     let name = editName list place in

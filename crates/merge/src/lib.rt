@@ -58,7 +58,7 @@ pub fn merge(kind: u32, old: &[u8], list: &[u8], index: &mut [u32], out: &mut [u
     }
 }
 
-// With the table of byte classes made, and inputs that are not refused.
+// The same for ids of n digits, using the table of byte classes, for inputs within the size limit.
 fn merge_using(
     t: &[u8; 256],
     n: usize,
@@ -81,7 +81,7 @@ fn merge_using(
     }
 }
 
-// With the places of all edits in name order, no two of one name.
+// The merge once the index is ready: it holds the places of all edits in name order, and no two edits have one name.
 fn with_edits(
     t: &[u8; 256],
     n: usize,
@@ -100,7 +100,7 @@ fn with_edits(
     }
 }
 
-// The old records begin at a place.
+// The merge once the header was read: the old records begin at the place `body`.
 fn behind_header(
     t: &[u8; 256],
     n: usize,
@@ -126,7 +126,8 @@ fn no_marks() -> [usize; 8192] {
     [0; 8192]
 }
 
-// What is known of the new file from the runs; nothing is written before all refusals are known.
+// The merge once the old file has passed the check and the runs are known: 13, 14 and 12, then the writing. Nothing is written before all
+// refusals are known.
 fn finish(
     n: usize,
     old: &[u8],

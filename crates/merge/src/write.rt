@@ -6,7 +6,7 @@ ghost use Rattle.put.specs.Put.{over, placeBehind};
 ghost use Rattle.merge.specs.Entry.{editAt};
 ghost use Rattle.merge.specs.Splice.{splicedFile};
 
-// As far as there is room; gives the place behind the whole, so that with no room at all it measures.
+// Writes as far as there is room. Gives the length of the whole new file even where it has no room, so that a call with an empty output measures it.
 pub(crate) fn write(
     header: &[u8],
     n: usize,

@@ -17,7 +17,7 @@ pub fn is_valid(s: &[u8]) -> bool
     is_valid_using(&t, s)
 }
 
-// The same, by a table of byte classes that the caller made.
+// The same, using a table of byte classes that the caller lends.
 pub fn is_valid_using(t: &[u8; 256], s: &[u8]) -> bool
     ensures { λ r. ⌜ r ≡ validName (classesOf (now (t .entry))) (now (s .entry)) ⌝ }
 {

@@ -33,12 +33,12 @@ abbrev pub leftBy : List Entry → Option Entry
 leftBy [] = none
 leftBy (e ∷ l) = some e
 
--- what stands under a name after the edits, where something stood under it before: what the edit of that name leaves, or that
+-- what stands under a name after the edits: what the edit of that name leaves, or where no edit has the name, what stood there before
 abbrev pub afterEdits : List ℕ → List Override → Option Entry → Option Entry
 afterEdits name [] before = before
 afterEdits name (e ∷ es) before = if (sameName (e .name) name) (leftBy (e .new)) (afterEdits name es before)
 
--- a lookup of a name behind a header finds a record that is the entry
+-- a lookup of the name in the body finds a record, and that record is the entry
 pub record Shows (n : ℕ) (body name : List ℕ) (e : Entry) : Type 0 where
   pub place : ℕ
   pub it : Record

@@ -12,6 +12,6 @@ abbrev pub then {ℓ} : {A : Type ℓ} → Past → (ℕ → A) → A → A
 then (At p) f other = f p
 then Unread f other = other
 
--- the place behind the byte b, where it stands at a place
+-- the place behind the byte b, if that byte stands at a place
 unfoldable pub byteAt : ℕ → List ℕ → ℕ → Past
 byteAt b s at = if (ltb at (length s)) (if (eqb (getD s at 0) b) (At (at + 1)) Unread) Unread

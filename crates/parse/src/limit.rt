@@ -34,7 +34,7 @@ pub enum Admission {
     TooLarge,
 }
 
-// For an operation that is lent inputs of these two sizes; an operation with one input gives 0 for the other.
+// The admission of an operation that is lent two inputs of these sizes; an operation with one input gives 0 for the other.
 pub fn admit(kind: u32, size: usize, other: usize) -> Admission
     ensures { λ r. ⌜ r ≡ admission kind size other ⌝ }
 {

@@ -4,13 +4,13 @@ ghost use Prim.Native.Nat.{_-_};
 ghost use Rattle.parse.specs.Part.{byteAt};
 ghost use lib.ListN.{take, drop};
 
-// The place behind a part that was read, or that it can't be read.
+// What reading a part gives: the place behind it, or that it can't be read.
 pub enum Past {
     At(usize),
     Unread,
 }
 
-// The place behind a byte, where it stands at a place.
+// The place behind the byte b, if that byte stands at a place.
 pub fn past_byte(s: &[u8], at: usize, b: u8) -> Past
     ensures { λ r. ⌜ r ≡ byteAt b (now (s .entry)) at ⌝ }
 {

@@ -7,6 +7,6 @@ use lib.ListN.{length, take, drop}
 abbrev pub over : List ℕ → ℕ → List ℕ → List ℕ
 over d at w = take at d ++ (take (length d - at) w ++ drop (at + length w) d)
 
--- the place so many bytes behind another, as a number of 64 bits tells it: all lent bytes end before the last one
+-- the place so many bytes behind another, or the largest number of 64 bits where that is smaller: all lent bytes end before it
 unfoldable pub placeBehind : ℕ → ℕ → ℕ
 placeBehind at n = min (at + n) 18446744073709551615

@@ -48,7 +48,7 @@ pub fn lf(out: &mut [u8], at: usize, src: &[u8]) -> usize
     }
 }
 
-// The place so many bytes behind another. Where that is no usize it is the last one, which is beyond the end of all lent bytes as well.
+// The place so many bytes behind another. Where that is larger than any usize it is the largest one, which lies beyond all lent bytes as well.
 fn place_behind(at: usize, n: usize) -> usize
     ensures { λ r. ⌜ r ≡ placeBehind at n ⌝ }
 {

@@ -18,19 +18,20 @@ pub record Run : Type 0 where
 abbrev pub run : ℕ → ℕ → Run
 run from to = record { from = from; to = to }
 
--- the runs of those of the edits at ps that a record of a name settles, which reaches from a place to the next: edits of smaller
--- names belong in front of it, one of its name replaces it, and those of greater names belong further behind
+-- the runs that a record settles. It has a name and reaches from a place to the next; ps are the places of edits in name order. An edit of a
+-- smaller name belongs in front of the record: its run is empty. An edit of the record's name replaces it: its run is the record. An edit of a
+-- greater name belongs further behind, and the record does not settle it
 abbrev pub settles : List ℕ → List ℕ → ℕ → ℕ → List ℕ → List Run
 settles list name place next [] = []
 settles list name place next (p ∷ ps) =
     byOrder (orderOf name (editName list p)) [] (run place next ∷ []) (run place place ∷ settles list name place next ps)
 
--- behind all records
+-- edits that belong behind all records have empty runs there
 abbrev pub atEnd : ℕ → List ℕ → List Run
 atEnd place [] = []
 atEnd place (p ∷ ps) = run place place ∷ atEnd place ps
 
--- the runs of the edits at ps among some items that begin at a place
+-- the runs of the edits at ps, where these items are the old records and the first of them begins at a place
 abbrev pub runsOf : ℕ → List ℕ → ℕ → List Item → List ℕ → List Run
 runsOf n list place [] ps = atEnd place ps
 runsOf n list place (i ∷ l) ps =
@@ -51,7 +52,7 @@ surveyed n list place last (i ∷ l) ps =
     (here ++ surveyed n list (place + length (i .bytes)) (nameOf n i) l (drop (length here) ps))
     [])
 
--- starts and ends one after another
+-- the start and the end of each run, one after another
 abbrev pub marksOf : List Run → List ℕ
 marksOf [] = []
 marksOf (r ∷ l) = r .from ∷ r .to ∷ marksOf l

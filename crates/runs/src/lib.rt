@@ -12,8 +12,9 @@ use checks::Turn;
 use checks::Verdict;
 use compare::order::Order;
 
-// The check of the records from a place on. The marks begin with the starts and ends of the runs of the edits at the index's places, as far as
-// there is room, and up to the first fault.
+// Checks the records from a place on, and finds the run of each edit. The index holds the places of the edits in the list, in name order. Each edit
+// has two marks, in the index's order: where its run starts, and where it ends. They are put to the front of `marks`; what has no room is left out.
+// At the first fault the check ends, and the edits that are not settled by then get no marks.
 pub fn survey(
     t: &[u8; 256],
     n: usize,
@@ -50,7 +51,8 @@ pub fn survey(
     }
 }
 
-// The edits from j on that a record settles get their runs; gives the number of the first that it does not.
+// A record settles the edits whose names are not greater than its own: those of the index's entry `from` on get their runs. Gives the first entry
+// that it does not settle.
 fn settle(
     list: &[u8],
     index: &[u32],
@@ -82,7 +84,7 @@ fn settle(
     j
 }
 
-// The edits from j on belong behind all records.
+// The edits of the index's entry `from` on have greater names than all records: each gets an empty run behind the last record.
 fn settle_rest(index: &[u32], from: usize, place: usize, marks: &mut [usize])
     ensures { λ _. ⌜ now (marks .exit) ≡ over (now (marks .entry)) (2 * from) (marksOf (atEnd place (drop from (now (index .entry))))) ⌝ }
 {
@@ -107,7 +109,7 @@ fn mark(marks: &mut [usize], at: usize, from: usize, to: usize)
     marks[at + 1] = to;
 }
 
-// The mark at a place, or 0 behind them all.
+// The mark at a place, or 0 where there is none.
 pub fn mark_at(marks: &[usize], at: usize) -> usize
     ensures { λ r. ⌜ r ≡ getD (now (marks .entry)) at 0 ⌝ }
 {
@@ -117,7 +119,7 @@ pub fn mark_at(marks: &[usize], at: usize) -> usize
     0
 }
 
-// Whether there is no update, and every run is empty.
+// Whether the edits leave every record as it is: there is no update, and every run is empty.
 pub fn is_still(list: &[u8], index: &[u32], marks: &[usize]) -> bool
     ensures { λ r. ⌜ r ≡ isStill (now (list .entry)) (now (index .entry)) (now (marks .entry)) ⌝ }
 {

@@ -56,7 +56,7 @@ module _ (order : ℕ → Order) (failure : ℕ → Bool) where
         ]
       ]
 
--- how often that probes
+-- how many probes that takes
 module _ (order : ℕ → Order) where
   unfoldable pub probeCount : ℕ → ℕ → ℕ → ℕ
   probeCount zero low high = 0

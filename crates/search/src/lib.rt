@@ -5,6 +5,7 @@ ghost use Rattle.search.specs.Search.{searchOf, probedOf};
 use compare::order::Order;
 use probe::shape::Shape;
 
+// What halving comes to.
 pub enum Halved {
     // The start of the record whose name is the wanted one.
     Hit(usize),

@@ -14,7 +14,7 @@ Child p c = (2 * p + 1 ≤ c) × (c ≤ 2 * p + 2)
 abbrev pub Heap : (ℕ → ℕ → Bool) → List ℕ → ℕ → ℕ → Type 0
 Heap lt a lo n = (p c : ℕ) → lo ≤ p → Child p c → c < n → NotBefore lt a p c
 
--- the same but for the entry k: whatever stands there, its parent does not come before its children
+-- a heap but for the entry k, which may come before or after any other: the parent of k does not come before the children of k
 pub record HeapBut (lt : ℕ → ℕ → Bool) (a : List ℕ) (lo n k : ℕ) : Type 0 where
   pub edge : (p c : ℕ) → lo ≤ p → Child p c → c < n → (p ≡ k → ⊥) → (c ≡ k → ⊥) → NotBefore lt a p c
   pub over : (p c : ℕ) → lo ≤ p → Child p k → Child k c → c < n → NotBefore lt a p c
@@ -32,7 +32,7 @@ pub record Moved (a b : List ℕ) (n : ℕ) : Type 0 where
   pub behind : drop n b ≡ drop n a
   pub from : (i : ℕ) → i < n → (j : ℕ) × (j < n) × (getD b i 0 ≡ getD a j 0)
 
--- in the list l, which is a by now, the entry at root has come down to k
+-- the list was l and is now a: the entry that stood at root has come down to k
 pub record Down (lt : ℕ → ℕ → Bool) (l a : List ℕ) (root n k : ℕ) : Type 0 where
   pub low : root ≤ k
   pub within : k < n

@@ -53,7 +53,7 @@ fn sink(index: &mut [u32], s: &[u8], layout: Layout, root: usize, n: usize)
     rise(index, s, layout, root, leaf, n);
 }
 
-// The entry at root changes places with its larger child, down to a leaf. Which leaf that is.
+// The entry at root changes places with its larger child, down to a leaf. Gives that leaf.
 fn descend(index: &mut [u32], s: &[u8], layout: Layout, root: usize, n: usize) -> usize
     requires { ⌜ (root < n) × (n ≤ length (now index)) × Heap (comesFirst layout (now s)) (now index) (root + 1) n ⌝ }
     ensures { λ r. ⌜ Down (comesFirst layout (now (s .entry))) (now (index .entry)) (now (index .exit)) root n r

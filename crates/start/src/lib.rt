@@ -31,7 +31,7 @@ pub fn begin(kind: u32, file: &[u8]) -> StartAnswer
     }
 }
 
-// The same by a table of byte classes.
+// The same, using a table of byte classes that the caller lends.
 pub fn begin_using(t: &[u8; 256], file: &[u8]) -> Start
     ensures { λ r. ⌜ r ≡ startOf (classesOf (now (t .entry))) (now (file .entry)) ⌝ }
 {
@@ -44,7 +44,7 @@ pub fn begin_using(t: &[u8; 256], file: &[u8]) -> Start
     }
 }
 
-// A header counts as item 1.
+// The first item's number. A header counts as item 1, so behind it the items begin with 2.
 fn first_item(file: &[u8]) -> u64
     ensures { λ r. ⌜ r ≡ firstItem (now (file .entry)) ⌝ }
 {
