@@ -1,4 +1,4 @@
-/* What C calls of the packed reference table. The functions are proved: crates/reply and crates/host hold their code and their contracts.
+/* What C calls of the packed reference table. The functions are proved: crates/host and the crates of the replies below it hold their code and their contracts.
  *
  * Lent bytes are a pointer and a length. The pointer is never NULL, also where the length is 0; bytes that a function only reads may overlap one
  * another, but an index and an output overlap nothing that is lent to the same call. Only packed_refs_merge writes, and only to its

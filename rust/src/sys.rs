@@ -5,7 +5,7 @@
 //! the number of docs/NUMBERS.md; a field that is not given beside that number is 0. Every place is counted in the bytes that were lent.
 //!
 //! The rest of the crate is the comfortable form of these. Field by field they are declared in include/packed_refs.h and, with their
-//! contracts, in crates/reply and crates/host; tests/sys.rs calls each.
+//! contracts, in crates/host and the crates of the replies below it; tests/sys.rs calls each.
 
 /// What [`header`] gives.
 #[repr(C)]

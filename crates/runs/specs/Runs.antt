@@ -1,4 +1,4 @@
--- The runs of old bytes that the edits replace: each edit's run is empty where no record has its name.
+-- The runs of old bytes that the edits replace: what `runs` promises the merge. Who only asks what a merge writes need not read it.
 use mathlib.Core.Bool.{Bool, true, _&&_}
 use mathlib.Core.List.{List, [], _∷_, _++_}
 use Prim.Native.Nat.{ℕ, _+_}
