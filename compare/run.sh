@@ -1,14 +1,19 @@
 #!/usr/bin/env bash
 # compare/run.sh [COUNT [SEED]]: builds the library and compares it with the Rust on every short input and COUNT random ones an operation (default
 # 100,000, about three minutes). Not part of the gate, since it needs the oracle: the real gix-ref 0.67.1 as a program.
-#   ORACLE    the oracle's program; its own README says how it is built
+#   ORACLE    the oracle's program, which is not part of this repository; its own README says how it is built
 #   LIBHOST   the library (default: target/staticlib/libhost.a, made by ./libhost)
 #   INCLUDE   where packed_refs.h is (default: include)
 set -eu
 root=$(cd "$(dirname "$0")/.." && pwd)
-: "${ORACLE:?the oracle program}"
+if ! command -v "${ORACLE:-}" >/dev/null; then
+    echo "compare/run.sh needs the oracle, gix-ref 0.67.1 built as a program, which is not part of this repository: set ORACLE to that program." >&2
+    [ -z "${ORACLE:-}" ] || echo "ORACLE is $ORACLE, and no such program is there." >&2
+    exit 1
+fi
 export ORACLE
 if [ -z "${LIBHOST:-}" ]; then
+    mkdir -p "$root/target"
     "$root/libhost" >"$root/target/compare.log" 2>&1 || { tail -n 20 "$root/target/compare.log"; exit 1; }
     LIBHOST=$root/target/staticlib/libhost.a
 fi

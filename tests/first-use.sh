@@ -1,4 +1,4 @@
-# The first command on a fresh clone, with an rt and a cargo that only note what they are asked: it says where it is, proves on all processors, answers
+# The first command on a fresh clone, with an rt and a cargo that only note what they are asked: it says where it is, leaves to rt how many it proves at once, answers
 # on standard output alone, and what was proved and built is not proved and built again. ./test says where it is, too.
 set -u
 cd "$(dirname "$0")/.." || exit 1

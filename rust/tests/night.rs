@@ -132,9 +132,9 @@ fn a_lock_is_waited_for() {
     let dir = Dir::new();
     let table = dir.file("table", record('1', "refs/s/a").as_bytes());
     let edits = dir.file("edits", update('2', "refs/s/b").as_bytes());
-    // given back in time
+    // given back in time: when it is waited for the third time
     let lock = dir.file("table.lock", b"theirs");
-    let ran = shell(&format!("(sleep 0.4; rm '{lock}') & \"$@\""), &["merge", &table, &edits, "-o", &table]);
+    let ran = common::meanwhile(&dir, "WAIT=3", &format!("rm '{lock}'"), &["merge", &table, &edits, "-o", &table]);
     ran.is(0, "", "the new file has 2 records");
     // never given back
     dir.file("table.lock", b"theirs");

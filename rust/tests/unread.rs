@@ -1,10 +1,11 @@
 //! Absent is never said of what was not read: closed descriptors, tables of zero bytes, files that change, tables that are too short.
 mod common;
 
-use common::{id, record, shell, Dir, Ran, HEADER};
+use common::{id, meanwhile, record, shell, Dir, Ran, HEADER};
+use std::fs::File;
 use std::io::Write;
-use std::process::{Command, Stdio};
-use std::time::{Duration, Instant};
+use std::process::{Child, Command, Stdio};
+use std::time::{Duration, Instant, SystemTime};
 
 const NIGHT: &str = concat!(env!("CARGO_MANIFEST_DIR"), "/../examples/night");
 const DAMAGED: &str = concat!(env!("CARGO_MANIFEST_DIR"), "/../examples/damaged");
@@ -154,13 +155,26 @@ fn a_file_that_is_not_there_is_no_answer() {
     assert!(!common::run(&["--help"], b"").out.contains("counts as empty"));
 }
 
-/// A process that does not outlive the test, however the test ends.
-struct Stopped(std::process::Child);
+/// A line of shell that is run again and again until it is told to stop, or the test ends. It is never stopped within the line.
+struct Repeated {
+    shell: Child,
+    stop: String,
+}
 
-impl Drop for Stopped {
+impl Repeated {
+    fn new(dir: &Dir, line: &str) -> Repeated {
+        let stop = dir.path("stop");
+        let line = format!("cd '{}' && until [ -e stop ]; do {line}; done", dir.path(""));
+        Repeated { shell: Command::new("sh").args(["-c", &line]).spawn().unwrap(), stop }
+    }
+}
+
+impl Drop for Repeated {
     fn drop(&mut self) {
-        let _ = self.0.kill();
-        let _ = self.0.wait();
+        // Were it killed, what it started could go on and change the table behind it.
+        std::fs::write(&self.stop, b"").unwrap();
+        let _ = self.shell.wait();
+        std::fs::remove_file(&self.stop).unwrap();
     }
 }
 
@@ -171,9 +185,9 @@ fn a_table_that_is_rewritten_in_place_is_never_absent() {
     // Lines of 359 bytes: none ends where a page of the file does, so that a copy that stands still is seen by its last line.
     let lines: String = (0..3_000).map(|i| record('1', &format!("refs/s/{i:0310}"))).collect();
     let table = dir.file("table", lines.as_bytes());
-    let copy = dir.file("copy", lines.as_bytes());
+    dir.file("copy", lines.as_bytes());
     let last = format!("refs/s/{:0310}", 2_999);
-    let copying = Stopped(Command::new("sh").args(["-c", "while :; do cp \"$0\" \"$1\"; done", &copy, &table]).spawn().unwrap());
+    let copying = Repeated::new(&dir, "cp copy table");
     let begun = Instant::now();
     let mut told = [0; 3];
     while begun.elapsed() < Duration::from_secs(5) {
@@ -185,8 +199,8 @@ fn a_table_that_is_rewritten_in_place_is_never_absent() {
     }
     drop(copying);
     println!("{} charted, {} no answer", told[0], told[2]);
-    std::fs::copy(&copy, &table).unwrap();
-    assert_eq!(run(&["lookup", &table, &last]).status, 0);
+    let ran = run(&["lookup", &table, &last]);
+    assert_eq!(ran.status, 0, "{ran:?}");
 }
 
 /// A file that goes on changing while it is read is no answer, and one that stops is read anew.
@@ -194,19 +208,14 @@ fn a_table_that_is_rewritten_in_place_is_never_absent() {
 fn a_file_that_changes_while_it_is_read() {
     let dir = Dir::new();
     let table = dir.file("table", record('1', "refs/s/a").as_bytes());
-    // a reader so slow that each reading sees a change: the shim holds up each read of a table
-    let shim = common::shim(&dir, "slow_read.c");
-    let slow = |changes: &str| {
-        let line =
-            format!("(cd '{}' && {changes}) & LD_PRELOAD='{shim}' \"$@\"; status=$?; kill $! 2>/dev/null; exit $status", dir.path(""));
-        shell(&line, &["lookup", &table, "refs/s/b"])
-    };
-    let touching = slow("while :; do touch table; sleep 0.02; done");
-    touching.is(2, "", "table changes while it is read, each time anew. Do not send; ask again.");
-    let replacing = slow("while :; do cp table other; mv other table; sleep 0.02; done");
-    replacing.is(2, "", "table changes while it is read");
-    dir.file("table", record('1', "refs/s/a").as_bytes());
-    let once = slow("sleep 0.05; printf '%040d refs/s/b\\n' 2 >>table");
+    let other = dir.path("other");
+    // a pause, so that the time of the change is another one too
+    for line in [format!("sleep 0.02; touch '{table}'"), format!("cp '{table}' '{other}'; mv '{other}' '{table}'")] {
+        let ran = meanwhile(&dir, "READ=0", &line, &["lookup", &table, "refs/s/b"]);
+        ran.is(2, "", "table changes while it is read, each time anew. Do not send; ask again.");
+    }
+    let line = format!("printf '%040d refs/s/b\\n' 2 >>'{table}'");
+    let once = meanwhile(&dir, "READ=1", &line, &["lookup", &table, "refs/s/b"]);
     once.is(0, &format!("0 charted refs/s/b {:040} byte 50\n", 2), "");
 }
 
@@ -214,11 +223,15 @@ fn a_file_that_changes_while_it_is_read() {
 #[test]
 fn a_table_in_the_making_is_waited_for() {
     let dir = Dir::new();
-    let (first, rest) = (dir.file("first", record('1', "refs/s/a").as_bytes()), dir.file("rest", record('2', "refs/s/b").as_bytes()));
-    let line = format!("cat '{first}' >'{0}'; (sleep 0.01; cat '{rest}' >>'{0}') & exec \"$@\"", dir.path("table"));
     let charted = format!("0 charted refs/s/b {} byte 50\n", id('2'));
-    shell(&line, &["lookup", &dir.path("table"), "refs/s/b"]).is(0, &charted, "");
-    shell(&line, &["check", &dir.path("table")]).is(0, "0 passed: 2 records\n", "");
+    let rest = dir.file("rest", record('2', "refs/s/b").as_bytes());
+    for (command, told) in [(&["lookup", "table", "refs/s/b"][..], &charted[..]), (&["check", "table"], "0 passed: 2 records\n")] {
+        let table = dir.file("table", record('1', "refs/s/a").as_bytes());
+        // a time ahead of our clock is just now, too, however long it takes to get there
+        File::options().append(true).open(&table).unwrap().set_modified(SystemTime::now() + Duration::from_secs(3600)).unwrap();
+        let args: Vec<&str> = command.iter().map(|word| if *word == "table" { &table[..] } else { word }).collect();
+        meanwhile(&dir, "WAIT=1", &format!("cat '{rest}' >>'{table}'"), &args).is(0, told, "");
+    }
 }
 
 #[test]

@@ -5,15 +5,17 @@ use mathlib.Core.List.{List, [], _∷_, _++_}
 use Prim.Native.Nat.{ℕ, _+_}
 use native.Mathlib.Omega.{arith}
 use lib.ListN.{length, length-append}
+use Rattle.parse.specs.Choice.{if}
 use Rattle.compare.specs.Prefix.{same}
 use Rattle.compare.proofs.Prefixes.{same-is, same-self}
 use Rattle.decode.specs.declared.reference.Record.{Record}
 use Rattle.decode.specs.declared.reference.Reading.{Reading}
 use Rattle.decode.specs.declared.reference.Reading.the-variants.{Good, Bad}
+use Rattle.decode.specs.Record.{decoded}
 use Rattle.iter.specs.Items.{Item, bytesOf, nameOf}
 use Rattle.ask.specs.declared.Sought.{Sought}
 use Rattle.ask.specs.declared.Sought.the-variants.{At, Nowhere}
-use Rattle.ask.specs.Ask.{soughtBy, firstNamed}
+use Rattle.ask.specs.Ask.{firstNamed}
 
 -- of some items that begin at a place, one is a record of the name, and the bytes of those before it reach to where it is told
 pub record NamedAmong (n : ℕ) (name : List ℕ) (begin : ℕ) (l : List Item) (place : ℕ) (r : Record) : Type 0 where
@@ -45,7 +47,7 @@ module _ (n : ℕ) (name : List ℕ) where
             name-is = x .name-is;
           }
 
-      go : (w : Reading) → i .what ≡ w → (t : Bool) → same name (nameOf n i) ≡ t → soughtBy w t begin later ≡ At place r
+      go : (w : Reading) → i .what ≡ w → (t : Bool) → same name (nameOf n i) ≡ t → decoded w (λ r. if t (At begin r) later) (λ f. later) ≡ At place r
           → (later ≡ At place r → NamedAmong n name (begin + length (i .bytes)) l place r) → NamedAmong n name begin (i ∷ l) place r
       go (Good f) q true s h ih =
           let z : begin ≡ place = cc in
@@ -53,7 +55,7 @@ module _ (n : ℕ) (name : List ℕ) where
       go (Good f) q false s h ih = behind (ih h)
       go (Bad f) q t s h ih = behind (ih h)
 
-  nowhere-behind : (w : Reading) (t : Bool) (place : ℕ) (later : Sought) → soughtBy w t place later ≡ Nowhere → later ≡ Nowhere
+  nowhere-behind : (w : Reading) (t : Bool) (place : ℕ) (later : Sought) → decoded w (λ r. if t (At place r) later) (λ f. later) ≡ Nowhere → later ≡ Nowhere
   nowhere-behind (Good r) true place later h = cc
   nowhere-behind (Good r) false place later h = h
   nowhere-behind (Bad f) t place later h = h

@@ -24,7 +24,7 @@ use Rattle.ask.specs.declared.Sought.the-variants.{At, Nowhere}
 use Rattle.ask.specs.declared.Told.the-variants as told
 use Rattle.ask.specs.Ask.{firstNamed, soughtFrom, orVerdict, unlessFound, askBody, askOf}
 use Rattle.iter.specs.Stands.{Named}
-use Rattle.ask.specs.Trusted.{Trusted}
+use Rattle.ask.specs.Trusted.{AskIsTrusted}
 use Rattle.ask.proofs.FirstNamed.{NamedAmong, told-at, told-nowhere}
 
 -- only a clean verdict says absent
@@ -124,7 +124,7 @@ module _ (n : ℕ) (file name : List ℕ) where
             (record { it = x .it; stands = record { before = x .before; after = x .after; all = x .all; here = refl }; good = x .good; name-is = x .name-is }))
         go Nowhere e = by-sought ∙ rw e (ap unlessFound (sym (read paper n file opens)))
 
-pub trusted : (n : ℕ) (file name : List ℕ) → Trusted n file name
+pub trusted : AskIsTrusted
 trusted n file name =
     record {
       absent = absent n file name (asked n file name);

@@ -1,5 +1,4 @@
--- The lookup that can be trusted on any bytes.
-use mathlib.Core.Bool.{Bool, true, false}
+-- The lookup that can be trusted on any bytes. It is not in document 01: it is made of the items and of the check.
 use mathlib.Core.List.{List, [], _∷_}
 use Prim.Native.Nat.{ℕ, _+_}
 use lib.ListN.{length, drop}
@@ -8,11 +7,8 @@ use Rattle.class.specs.Class.{Classes, paper}
 use Rattle.parse.specs.Limit.{admission, admit}
 use Rattle.compare.specs.Prefix.{same}
 use Rattle.name.specs.Name.{validName}
-use Rattle.header.specs.declared.Opened.{Opened}
-use Rattle.header.specs.declared.Opened.the-variants.{Header, Unreadable}
-use Rattle.decode.specs.declared.reference.Reading.{Reading}
-use Rattle.decode.specs.declared.reference.Reading.the-variants.{Good, Bad}
-use Rattle.header.specs.Header.{headerOf}
+use Rattle.header.specs.Header.{headerOf, headed}
+use Rattle.decode.specs.Record.{decoded}
 use Rattle.checks.specs.declared.Verdict.{Verdict}
 use Rattle.checks.specs.declared.Verdict.the-variants as verdict
 use Rattle.checks.specs.declared.Refusal.the-variants.{BadHeader}
@@ -27,20 +23,16 @@ use Rattle.ask.specs.declared.AskAnswer.the-variants.{Done, UnknownKind,
 
 -- ---- the first record of a name among some items that begin at a place
 
-abbrev pub soughtBy : Reading → Bool → ℕ → Sought → Sought
-soughtBy (Good r) true place later = At place r
-soughtBy (Good r) false place later = later
-soughtBy (Bad f) same place later = later
-
 abbrev pub firstNamed : ℕ → List ℕ → ℕ → List Item → Sought
 firstNamed n name place [] = Nowhere
 firstNamed n name place (i ∷ l) =
-    soughtBy (i .what) (same name (nameOf n i)) place (firstNamed n name (place + length (i .bytes)) l)
+    let later = firstNamed n name (place + length (i .bytes)) l in
+    decoded (i .what) (λ r. if (same name (nameOf n i)) (At place r) later) (λ f. later)
 
 unfoldable pub soughtFrom : Classes → ℕ → List ℕ → ℕ → List ℕ → Sought
 soughtFrom byte n file place name = firstNamed n name place (items byte n (drop place file))
 
--- ---- charted if a record of the file has the name; else absent if the file passes the check; else what the check gives
+-- ---- behind a header that can be read: charted if a record has the name; else absent if the file passes the check; else what the check gives
 
 abbrev pub orVerdict : Sought → Told → Told
 orVerdict (At place r) v = Charted place r
@@ -53,12 +45,11 @@ unlessFound (verdict.Refused why) = Refused why
 unfoldable pub askBody : Classes → ℕ → List ℕ → ℕ → List ℕ → Told
 askBody byte n file body name = orVerdict (soughtFrom byte n file body name) (unlessFound (judgeBody byte n file body))
 
-abbrev pub askOpened : Classes → ℕ → List ℕ → List ℕ → Opened → Told
-askOpened byte n file name (Header h) = askBody byte n file (h .body) name
-askOpened byte n file name (Unreadable k) = Refused (BadHeader k)
-
 unfoldable pub askOf : Classes → ℕ → List ℕ → List ℕ → Told
-askOf byte n file name = if (validName byte name) (askOpened byte n file name (headerOf byte file)) BadName
+askOf byte n file name =
+    if (validName byte name)
+    (headed (headerOf byte file) (λ h. askBody byte n file (h .body) name) (λ text. Refused (BadHeader text)))
+    BadName
 
 unfoldable pub askAnswer : ℕ → List ℕ → List ℕ → AskAnswer
 askAnswer kind file name =

@@ -1,4 +1,4 @@
--- What the lookup means that can be trusted on any bytes.
+-- What the lookup that can be trusted on any bytes means.
 use mathlib.Core.Path.{_≡_}
 use mathlib.Core.Bool.{true}
 use mathlib.Core.List.{List}
@@ -30,3 +30,7 @@ pub record Trusted (n : ℕ) (file name : List ℕ) : Type 0 where
   -- where none has it the answer is absent, or the check's refusal
   pub otherwise : (h : Header) → headerOf paper file ≡ opened.Header h → validName paper name ≡ true
       → ((inner : ℕ) (r : Record) → Named n (drop (h .body) file) name inner r → ⊥) → askOf paper n file name ≡ unlessFound (checkOf paper n file)
+
+-- any bytes, any name
+abbrev pub AskIsTrusted : Type 0
+AskIsTrusted = (n : ℕ) (file name : List ℕ) → Trusted n file name

@@ -16,7 +16,7 @@ pub enum Told {
     Absent,
     // The wanted name breaks the name rules.
     BadName,
-    // No record has the name, and the file does not pass the check.
+    // The header can't be read, and no record was looked for; or no record has the name, and the file does not pass the check.
     Refused(Refusal),
 }
 

@@ -1,4 +1,4 @@
--- Whether a byte is among bytes.
+-- Whether a number is among others.
 use mathlib.Core.Bool.{Bool, false, _||_}
 use mathlib.Core.List.{List, [], _∷_}
 use Prim.Native.Nat.{ℕ}

@@ -1,5 +1,5 @@
 -- What the answers of check and header say of a file: behind them stand the check's verdict and the header.
-use mathlib.Core.Path.{_≡_, refl, sym, _∙_}
+use mathlib.Core.Path.{_≡_, refl}
 use mathlib.Core.Bool.{Bool, true, false}
 use mathlib.Core.List.{List}
 use Prim.Native.Nat.{ℕ, _<_}
@@ -16,7 +16,7 @@ use Rattle.header.specs.declared.Opened.the-variants as opened
 use Rattle.header.specs.declared.HeaderAnswer.the-variants as headed
 use Rattle.header.specs.Header.{headerOf, headerAnswer}
 use Rattle.checks.specs.declared.Verdict.the-variants.{Clean}
-use Rattle.checks.specs.declared.CheckAnswer.the-variants.{Done, UnknownKind, TooLarge}
+use Rattle.checks.specs.declared.CheckAnswer.the-variants.{Done, TooLarge}
 use Rattle.checks.specs.Check.{checkOf, checkAnswer}
 
 pub passed : (kind n : ℕ) → digitsOf kind ≡ kinds.Digits n → (file : List ℕ) (count : ℕ) → checkAnswer kind file ≡ Done (Clean count)

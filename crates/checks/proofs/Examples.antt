@@ -9,12 +9,12 @@ use Rattle.header.specs.Header.{headerOf}
 use Rattle.decode.specs.Record.{recordOf}
 use Rattle.start.specs.Start.{firstItem, startOf}
 use Rattle.iter.specs.Step.{more, stepOf}
-use Rattle.handed.specs.Run.{runOf, readOf}
+use Rattle.handed.specs.Iteration.{iterate, readOf}
 use Rattle.iter.specs.Items.{sizeOf, itemsBehind, items}
 use Rattle.checks.specs.Check.{judgeBody, checkOf}
 use Rattle.checks.specs.Examples.{allComputed, cases}
 
 pub every-case : allComputed cases ≡ cases
-unfolding isHex isForbidden isLineEnd byteAt idAt eol newlineAt textAt headerOf recordOf firstItem startOf more stepOf runOf readOf sizeOf itemsBehind items judgeBody checkOf
+unfolding isHex isForbidden isLineEnd byteAt idAt eol newlineAt textAt headerOf recordOf firstItem startOf more stepOf iterate readOf sizeOf itemsBehind items judgeBody checkOf
     noComponentBeginsWithDot noLockAtTheEnd hasSlash noDotDot noForbiddenByte slashesApart noDotAtTheEnd noAtBrace notTheLoneAt validName
 every-case = refl

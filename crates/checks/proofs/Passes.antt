@@ -7,18 +7,20 @@ use Prim.Native.Nat.{ℕ, suc, _+_}
 use native.Mathlib.Nat.{add-zero}
 use native.Mathlib.Omega.{arith}
 use lib.ListN.{length, length-append}
+use Rattle.parse.specs.Choice.{if}
 use Rattle.compare.specs.declared.order.Order.{Order}
 use Rattle.compare.specs.declared.order.Order.the-variants.{Less, Equal, Greater}
-use Rattle.compare.specs.Order.{orderOf, isLess}
+use Rattle.compare.specs.Order.{orderOf, isLess, smaller}
 use Rattle.decode.specs.declared.reference.Fault.{Fault}
 use Rattle.decode.specs.declared.reference.Reading.{Reading}
 use Rattle.decode.specs.declared.reference.Reading.the-variants.{Good, Bad}
+use Rattle.decode.specs.Record.{decoded}
 use Rattle.checks.specs.declared.Verdict.{Verdict}
 use Rattle.checks.specs.declared.Verdict.the-variants.{Clean, Refused}
 use Rattle.checks.specs.declared.Refusal.{Refusal}
 use Rattle.checks.specs.declared.Refusal.the-variants.{BadHeader, BadRecord, Unsorted}
 use Rattle.iter.specs.Items.{Item, bytesOf, nameOf}
-use Rattle.checks.specs.Check.{orElse, judge}
+use Rattle.checks.specs.Check.{judge}
 use Rattle.checks.specs.Passes.{isGood, allGood, ascending, Passes, lastName, FirstFault, FirstError, FirstUnsorted}
 
 -- ---- one item: it stops the check, or the check goes on
@@ -40,7 +42,7 @@ turn n last i = go (i .what) refl (orderOf last (nameOf n i)) refl
     go (Good r) e Equal u = inl (unsorted (rw e) (λ z. let x : _≡_ {A = ℕ} 0 1 = cc in omega arith))
     go (Good r) e Greater u = inl (unsorted (rw e) (λ z. let x : _≡_ {A = ℕ} 0 1 = cc in omega arith))
 
-good-else : (w : Reading) (place : ℕ) (v : Verdict) → isGood w ≡ true → orElse w place v ≡ v
+good-else : (w : Reading) (place : ℕ) (v : Verdict) → isGood w ≡ true → decoded w (λ r. v) (λ f. Refused (BadRecord place f)) ≡ v
 good-else (Good r) place v g = refl
 good-else (Bad f) place v g = cc
 
@@ -54,12 +56,16 @@ refusal (error f e) place = BadRecord place f
 refusal (unsorted g u) place = Unsorted place
 
 module _ (n place count : ℕ) (last : List ℕ) (i : Item) (l : List Item) where
+  -- what a good record comes to
+  abbrev by-name : Verdict
+  by-name = if (smaller last (nameOf n i)) (judge n (place + length (i .bytes)) (suc count) (nameOf n i) l) (Refused (Unsorted place))
+
   judge-stop : (x : Stop n last i) → judge n place count last (i ∷ l) ≡ Refused (refusal x place)
   judge-stop (error f e) = rw e
-  judge-stop (unsorted g u) = rw (good-else (i .what) place _ g, not-less (orderOf last (nameOf n i)) u)
+  judge-stop (unsorted g u) = rw (good-else (i .what) place by-name g, not-less (orderOf last (nameOf n i)) u)
 
   judge-go : Goes n last i → judge n place count last (i ∷ l) ≡ judge n (place + length (i .bytes)) (suc count) (nameOf n i) l
-  judge-go h = rw (good-else (i .what) place _ (h .good), h .up)
+  judge-go h = rw (good-else (i .what) place by-name (h .good), h .up)
 
 -- ---- some items: none of them stops the check, or one is the first that does
 
@@ -146,9 +152,3 @@ module _ (n begin : ℕ) (l : List Item) where
 
   pub judged : {m : ℕ} → judge n begin 0 [] l ≡ Clean m → Passes n l m
   judged v = rw v at says
-
-  pub first-error : {place : ℕ} {f : Fault} → judge n begin 0 [] l ≡ Refused (BadRecord place f) → FirstError n begin l place f
-  first-error v = rw v at says
-
-  pub first-unsorted : {place : ℕ} → judge n begin 0 [] l ≡ Refused (Unsorted place) → FirstUnsorted n begin l place
-  first-unsorted v = rw v at says

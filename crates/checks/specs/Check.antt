@@ -7,12 +7,10 @@ use Rattle.parse.specs.Choice.{if}
 use Rattle.class.specs.Class.{Classes, paper}
 use Rattle.parse.specs.Limit.{admission, admit}
 use Rattle.compare.specs.Order.{smaller}
-use Rattle.header.specs.declared.Opened.{Opened}
-use Rattle.header.specs.declared.Opened.the-variants.{Header, Unreadable}
 use Rattle.decode.specs.declared.reference.Reading.{Reading}
 use Rattle.decode.specs.declared.reference.Reading.the-variants.{Good, Bad}
-use Rattle.header.specs.Header.{headerOf}
-use Rattle.decode.specs.Record.{recordOf, faultNumber}
+use Rattle.header.specs.Header.{headerOf, headed}
+use Rattle.decode.specs.Record.{recordOf, decoded, faultNumber}
 use Rattle.checks.specs.declared.Verdict.{Verdict}
 use Rattle.checks.specs.declared.Verdict.the-variants.{Clean, Refused}
 use Rattle.checks.specs.declared.Refusal.{Refusal}
@@ -23,32 +21,22 @@ use Rattle.checks.specs.declared.Turn.{Turn}
 use Rattle.checks.specs.declared.Turn.the-variants as turn
 use Rattle.iter.specs.Items.{Item, items, nameIn, nameOf}
 
--- what an item comes to: an error is answered with its place, a record goes by its name
-abbrev pub orElse : Reading → ℕ → Verdict → Verdict
-orElse (Good r) place verdict = verdict
-orElse (Bad f) place verdict = Refused (BadRecord place f)
-
 -- "iterate; the first item that is an error (4) or whose name isn't greater, byte by byte, than the one before (6) is answered
 -- with its place; else 0 and the record count". The items begin at a place. So many records (count) stood
 -- before them, and the last of those has the name last. Before the first record last is empty: every name is greater than that
 abbrev pub judge : ℕ → ℕ → ℕ → List ℕ → List Item → Verdict
 judge n place count last [] = Clean count
 judge n place count last (i ∷ l) =
-    orElse (i .what) place
-    (if (smaller last (nameOf n i))
-    (judge n (place + length (i .bytes)) (suc count) (nameOf n i) l)
-    (Refused (Unsorted place)))
+    decoded (i .what)
+    (λ r. if (smaller last (nameOf n i)) (judge n (place + length (i .bytes)) (suc count) (nameOf n i) l) (Refused (Unsorted place)))
+    (λ f. Refused (BadRecord place f))
 
 -- the body of a file, which begins at a place
 unfoldable pub judgeBody : Classes → ℕ → List ℕ → ℕ → Verdict
 judgeBody byte n file body = judge n body 0 [] (items byte n (drop body file))
 
-abbrev pub judgeOpened : Classes → ℕ → List ℕ → Opened → Verdict
-judgeOpened byte n file (Header h) = judgeBody byte n file (h .body)
-judgeOpened byte n file (Unreadable k) = Refused (BadHeader k)
-
 unfoldable pub checkOf : Classes → ℕ → List ℕ → Verdict
-checkOf byte n file = judgeOpened byte n file (headerOf byte file)
+checkOf byte n file = headed (headerOf byte file) (λ h. judgeBody byte n file (h .body)) (λ text. Refused (BadHeader text))
 
 -- with the kind's number first, then the size limit
 unfoldable pub checkAnswer : ℕ → List ℕ → CheckAnswer
@@ -68,7 +56,7 @@ checkNumber (Done (Refused why)) = refusalNumber why
 checkNumber UnknownKind = 1
 checkNumber TooLarge = 17
 
--- ---- one turn of a pass that checks: what stands at a place, where last is the name of the record before it
+-- ---- what functions promise each other, one turn of a pass that checks: what stands at a place, where last is the name of the record before it
 
 abbrev pub turnBy : ℕ → List ℕ → List ℕ → ℕ → Reading → Turn
 turnBy n last rest place (Good r) = if (smaller last (nameIn n (Good r) rest)) (turn.On r) (turn.Refused (Unsorted place))

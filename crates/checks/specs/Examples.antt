@@ -1,5 +1,6 @@
--- Document 01's worked examples of items, records, line ends and the check: kind 1, ids of 40 digits.
+-- Items, records, line ends and the check: document 01's worked examples, and the verdicts on them. Kind 1, ids of 40 digits.
 use mathlib.Core.List.{List, [], _∷_, _++_}
+use mathlib.Core.Option.{none}
 use Prim.Native.Nat.{ℕ}
 use lib.ListN.{replicate}
 use Rattle.class.specs.Class.{paper}
@@ -9,7 +10,7 @@ use Rattle.checks.specs.declared.Verdict.the-variants.{Clean, Refused}
 use Rattle.checks.specs.declared.Refusal.the-variants.{BadRecord}
 use Rattle.checks.specs.Check.{checkOf}
 use Rattle.handed.specs.Handed.{Handed, good, error, whats}
-use Rattle.handed.specs.Run.{readOf, outOf}
+use Rattle.handed.specs.Iteration.{readOf, outOf}
 
 -- some bytes, what reading them from the start to the end hands out, and the check's verdict on them
 pub record Case : Type 0 where
@@ -52,7 +53,7 @@ cases =
       verdict = Refused (BadRecord 0 Peeled);
     }
     -- CR LF ends a line; a bare CR does not, and the end of the bytes does not
-    ∷ record { bytes = line (13 ∷ 10 ∷ []); out = good ones (refsS ++ 97 ∷ []) ∷ []; verdict = Clean 1 }
+    ∷ record { bytes = line (13 ∷ 10 ∷ []); out = good (record { name = refsS ++ 97 ∷ []; id = ones; peeled = none }) ∷ []; verdict = Clean 1 }
     ∷ record { bytes = line (13 ∷ 98 ∷ 10 ∷ []); out = error 1 (line (13 ∷ 98 ∷ [])) ∷ []; verdict = Refused (BadRecord 0 LineEnd) }
     ∷ record { bytes = line []; out = error 1 (ones ++ 32 ∷ refsS) ∷ []; verdict = Refused (BadRecord 0 LineEnd) }
     ∷ []

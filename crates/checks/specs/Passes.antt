@@ -1,17 +1,15 @@
--- What the check means.
+-- When items pass the check, and which is their first fault.
 use mathlib.Core.Path.{_≡_}
 use mathlib.Core.Bool.{Bool, true, false, _&&_}
 use mathlib.Core.List.{List, [], _∷_, _++_}
-use mathlib.Core.Logic.{_⊎_}
 use Prim.Native.Nat.{ℕ, _+_}
-use lib.ListN.{length, drop}
+use lib.ListN.{length}
 use Rattle.compare.specs.declared.order.Order.the-variants.{Less}
-use Rattle.class.specs.Class.{Classes}
 use Rattle.compare.specs.Order.{orderOf}
 use Rattle.decode.specs.declared.reference.Fault.{Fault}
 use Rattle.decode.specs.declared.reference.Reading.{Reading}
 use Rattle.decode.specs.declared.reference.Reading.the-variants.{Good, Bad}
-use Rattle.iter.specs.Items.{Item, items, nameOf, bytesOf}
+use Rattle.iter.specs.Items.{Item, nameOf, bytesOf}
 
 abbrev pub isGood : Reading → Bool
 isGood (Good r) = true
@@ -27,7 +25,7 @@ abbrev pub ascending : ℕ → List ℕ → List Item → Type 0
 ascending n last [] = Unit {0}
 ascending n last (i ∷ l) = (orderOf last (nameOf n i) ≡ Less) × ascending n (nameOf n i) l
 
--- "0 exactly if all items are records in strictly ascending order; the count is the number of record items"
+-- "else 0 and the record count": all items are records in strictly ascending order, and the count is their number
 pub record Passes (n : ℕ) (l : List Item) (count : ℕ) : Type 0 where
   pub good : allGood l ≡ true
   pub up : ascending n [] l

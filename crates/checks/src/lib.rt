@@ -10,7 +10,7 @@ use parse::limit::Admission;
 
 // Why a file does not pass the check. Every function that checks a file, be it to merge it or to look up a name, hands on this value.
 pub enum Refusal {
-    // A first line that begins with # and is no header: the length of its text.
+    // A first line that begins with # but can't be read as a header: the length of its text.
     BadHeader(usize),
     // The first item that is an error, and which part of it can't be read.
     BadRecord { place: usize, fault: Fault },

@@ -1,14 +1,14 @@
 -- The table's classes are the paper's: of every number, since beyond the table there is no class.
 use mathlib.Core.Path.{_≡_, refl, sym, ap, _∙_, fun-ext}
-use mathlib.Core.Bool.{Bool, true, false, _&&_, _||_, and-false}
-use mathlib.Core.List.{List, [], _∷_}
+use mathlib.Core.Bool.{Bool, true, false, and-false}
+use mathlib.Core.List.{List}
 use Prim.Native.Nat.{ℕ, zero, suc, _+_, _*_, _/_, _%_, _≤_, _<_}
 use native.Mathlib.Nat.{add-zero, zero-add, suc-add, add-suc}
 use native.Mathlib.Omega.{arith}
-use lib.Dec.{leb, ltb, eqb}
-use lib.ListN.{length, getD}
+use lib.Dec.{ltb, eqb}
+use lib.ListN.{getD}
 use borrow.Author.Tests.{ltb-true, ltb-false, lt-leb, le-ltb, ne-eqb}
-use Rattle.class.specs.Class.{within, isHex, isForbidden, isLineEnd, Classes, paper, bit, classOf, valuesFrom, classTable, classesOf}
+use Rattle.class.specs.Class.{isHex, isForbidden, isLineEnd, Classes, paper, bit, classOf, valuesFrom, classTable, classesOf}
 
 -- ---- the three classes read back from the sum of their bits
 

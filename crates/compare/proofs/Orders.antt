@@ -1,6 +1,6 @@
 -- The order of two lists from a place on, by what stands there; and the laws of the order.
 use mathlib.Core.Path.{_≡_, refl, sym, ap, _∙_}
-use mathlib.Core.Bool.{Bool, true, false, _||_, not}
+use mathlib.Core.Bool.{Bool, true, false, _||_, not, true≢false}
 use mathlib.Core.Logic.{_⊎_, inl, inr}
 use mathlib.Core.List.{List, [], _∷_}
 use Prim.Native.Nat.{ℕ, zero, suc, _+_, _≤_, _<_}
@@ -14,6 +14,8 @@ use lib.Seq.{drop-cons}
 use Rattle.compare.specs.declared.order.Order.{Order}
 use Rattle.compare.specs.declared.order.Order.the-variants.{Less, Equal, Greater}
 use Rattle.compare.specs.Order.{orderOf}
+use Rattle.compare.specs.Prefix.{same}
+use Rattle.compare.proofs.Prefixes.{same-is, same-self}
 
 module _ (a b : List ℕ) where
   module _ (i : ℕ) where
@@ -98,6 +100,21 @@ order-equal (x ∷ a) (y ∷ b) h = go (firsts x a y b) (order-equal a b)
     go (below l e) ih = cc
     go (above l e) ih = cc
     go (level q e) ih = let t : a ≡ b = ih (sym e ∙ h) in cc
+
+-- comparing as equal is being the same bytes
+abbrev pub isEqual : Order → Bool
+isEqual Less = false
+isEqual Equal = true
+isEqual Greater = false
+
+pub same-by-order : (a b : List ℕ) → same a b ≡ isEqual (orderOf a b)
+same-by-order a b = go (same a b) refl (orderOf a b) refl
+  where
+    go : (t : Bool) → same a b ≡ t → (o : Order) → orderOf a b ≡ o → t ≡ isEqual o
+    go true s o e = ap isEqual (sym (ap (orderOf a) (same-is a b s) ∙ order-refl a) ∙ e)
+    go false s Less e = refl
+    go false s Equal e = absurd (true≢false (sym (same-self a) ∙ ap (same a) (order-equal a b e) ∙ s))
+    go false s Greater e = refl
 
 abbrev pub turned : Order → Order
 turned Less = Greater

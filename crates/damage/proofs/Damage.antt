@@ -1,6 +1,6 @@
 -- What is kept where a run of a checked file's bytes is replaced by others.
 use mathlib.Core.Path.{_≡_, refl, sym, ap, _∙_}
-use mathlib.Core.Bool.{Bool, true, false}
+use mathlib.Core.Bool.{true, false}
 use mathlib.Core.List.{List, [], _∷_, _++_, append-assoc}
 use Prim.Native.Nat.{ℕ, suc, _+_, _≤_, _<_}
 use native.Mathlib.Omega.{arith}
@@ -8,7 +8,6 @@ use lib.ListN.{getD, length, take, drop, length-append, length-drop}
 use lib.Seq.{drop-at, length-take-le}
 use Rattle.class.specs.Class.{paper, isHex}
 use Rattle.parse.specs.declared.limit.IdKind.the-variants as kinds
-use Rattle.parse.specs.Choice.{if}
 use Rattle.parse.specs.declared.limit.Admission.the-variants.{Digits}
 use Rattle.parse.specs.Limit.{digitsOf, overLimit, admission}
 use Rattle.parse.specs.Line.{lineLen}
@@ -22,23 +21,23 @@ use Rattle.decode.specs.declared.reference.Fault.{Fault}
 use Rattle.decode.specs.declared.reference.Reading.the-variants.{Bad}
 use Rattle.decode.specs.Record.{recordOf}
 use Rattle.decode.proofs.Records.{View, is-bad, plain, peeled, view}
-use Rattle.start.specs.Start.{firstItem, startOf, startAnswer}
+use Rattle.start.specs.Start.{firstItem, startAnswer}
 use Rattle.iter.specs.Items.{Item, sizeOf, items, bytesOf}
-use Rattle.iter.specs.Step.{more, stepAnswer}
+use Rattle.iter.specs.Step.{stepAnswer}
 use Rattle.iter.proofs.Items.{items-step, tile}
 use Rattle.handed.specs.Handed.{Given, error, handed, whats}
-use Rattle.handed.specs.Run.{ended, readOf, outOf, stopOf}
+use Rattle.handed.specs.Iteration.{saidEnd, readOf, outOf, stopOf}
 use Rattle.handed.specs.Lines.{Each}
 use Rattle.handed.specs.Hands.{raised}
 use Rattle.handed.proofs.Lines.{read-from-lines}
-use Rattle.handed.proofs.Runs.{reads-file}
+use Rattle.handed.proofs.Iterations.{reads-file}
 use Rattle.checks.specs.declared.Verdict.the-variants.{Clean}
 use Rattle.checks.specs.Check.{checkOf}
 use Rattle.checks.specs.Passes.{allGood}
 use Rattle.checks.proofs.Asked.{passed, opened-as, some-digits}
 use Rattle.checks.proofs.CheckMeans.{read}
 use Rattle.checks.proofs.Passes.{judged}
-use Rattle.damage.specs.Damage.{whole, Replaced, endingBefore, beginningFrom, recordsIn, handedOut, Aside, Behind, Kept, Demand3, placeBefore, placeAfter}
+use Rattle.damage.specs.Damage.{whole, Replaced, endingBefore, beginningFrom, recordsIn, handedOut, Aside, Behind, Kept, Demand3}
 use Rattle.damage.proofs.Cuts.{endBefore, beginFrom, end-bytes, good-begin}
 use Rattle.damage.proofs.Front.{front}
 use Rattle.damage.proofs.HeaderKept.{header-kept, number-kept, start-kept}
@@ -93,15 +92,15 @@ module _ (n : ℕ) (pos : 0 < n) where
     good-from = good-begin (suc (length (kept ++ (run ++ a)))) (items paper n (kept ++ (run ++ (a ++ 10 ∷ c)))) good
 
     -- the same as before; or a `^` line has lost the record that it belonged to, and stands alone before them
-    data Found : Type 0 where
-      alike : from other ≡ from run → Found
+    data Resumed : Type 0 where
+      alike : from other ≡ from run → Resumed
       lone : (f : Fault) → from other ≡ record { what = Bad f; bytes = take (lineLen c) c } ∷ items paper n (drop (lineLen c) c) → from other ≡ items paper n c
-          → from run ≡ items paper n (drop (lineLen c) c) → Found
+          → from run ≡ items paper n (drop (lineLen c) c) → Resumed
 
-    found : Found
-    found = go (resync n (kept ++ (run ++ a)) c) (resync n (kept ++ (other ++ a)) c)
+    resumed : Resumed
+    resumed = go (resync n (kept ++ (run ++ a)) c) (resync n (kept ++ (other ++ a)) c)
       where
-        go : After n (kept ++ (run ++ a)) c → After n (kept ++ (other ++ a)) c → Found
+        go : After n (kept ++ (run ++ a)) c → After n (kept ++ (other ++ a)) c → Resumed
         go (after.whole e) (after.whole f) = alike (from-is other f ∙ sym (from-is run e))
         go (after.whole e) (after.later h f) = absurd (not-caret c (rw (from-is run e) at good-from) h)
         go (after.later h e) (after.whole f) =
@@ -121,7 +120,7 @@ module _ (n : ℕ) (pos : 0 < n) where
         ∙ ap (λ (s : List ℕ). handed n (h .body) (firstItem (whole header kept x rest)) (items paper n s)) body-is
         ∙ ap (λ (p : ℕ). handed n p (firstItem (whole header kept x rest)) (items paper n (kept ++ (x ++ rest)))) at
 
-    ends-at : (last : ℕ) × (stopOf (readOf paper n (whole header kept x rest)) ≡ ended (length (whole header kept x rest)) last)
+    ends-at : (last : ℕ) × (stopOf (readOf paper n (whole header kept x rest)) ≡ saidEnd (length (whole header kept x rest)) last)
     ends-at = (
       raised (firstItem (whole header kept x rest)) (items paper n (drop (h .body) (whole header kept x rest))),
       ap stopOf (reads-file paper n (whole header kept x rest) .all h reads),
@@ -194,7 +193,7 @@ module _ (n : ℕ) (pos : 0 < n) where
             → Aside g (behind-it other) (behind-it run) (lineLen c) (beginningFrom (behind-it run) (out run rest)))
             (beginningFrom (behind-it other) (out other rest))
 
-        kept-behind : Found kept run other a c good
+        kept-behind : Resumed kept run other a c good
             → (recordsIn (beginningFrom (behind-it other) (out other rest)) ≡ whats (beginningFrom (behind-it run) (out run rest))) × Errors
         kept-behind (alike e) =
             let g = good-from kept run other a c good in (
@@ -278,7 +277,7 @@ module _ (kind n : ℕ) (d : digitsOf kind ≡ kinds.Digits n) (header left run 
       let was : handedOut n (whole header left run (a ++ 10 ∷ c)) ≡ out n pos header left run other k run (a ++ 10 ∷ c) = rw e at out-before in
       let is : handedOut n (whole header left other (a ++ 10 ∷ c)) ≡ out n pos header left run other k other (a ++ 10 ∷ c) = rw e at out-after in
       let fine : allGood (items paper n (left ++ (run ++ (a ++ 10 ∷ c)))) ≡ true = rw e at good in
-      let (records, errors) = kept-behind n pos header left run other k a c fine (found n pos left run other a c fine) in
+      let (records, errors) = kept-behind n pos header left run other k a c fine (resumed n pos left run other a c fine) in
       let (between, order) = in-order n pos header left run other k a c fine in
       record { records = rw (is, was) records; between = between; in-order = rw (is, was) order; errors = rw (is, was) errors }
 
@@ -297,7 +296,7 @@ module _ (kind n : ℕ) (d : digitsOf kind ≡ kinds.Digits n) (header left run 
         end = ends-at n pos header left rest other (r .head) opens′ (r .behind) .1;
         all-records = rw out-before (records-alike n _ _ _ _ (items paper n (left ++ (run ++ rest))) good);
         others = handed n (s .place) (s .counted) (s .others);
-        before = out-after ∙ s .is ∙ rw (out-before, ahead-is n pos header left run other (firstItem file) rest good);
+        in-front = out-after ∙ s .is ∙ rw (out-before, ahead-is n pos header left run other (firstItem file) rest good);
         behind = behind-feed;
         parts = read-from-lines n damaged;
       }

@@ -10,8 +10,8 @@ use lib.ListN.{getD, length, drop, length-append, length-drop}
 use lib.Seq.{drop-append-le, drop-drop, length-take-le}
 use Rattle.class.specs.Class.{paper}
 use Rattle.parse.specs.Line.{lineLen}
-use Rattle.parse.proofs.Fronts.{at-drop, lineLen-at}
-use Rattle.iter.specs.Items.{Item, sizeOf, items}
+use Rattle.parse.proofs.Fronts.{lineLen-at}
+use Rattle.iter.specs.Items.{sizeOf, items}
 use Rattle.damage.proofs.Cuts.{beginFrom, begin-all}
 use Rattle.iter.proofs.Covers.{front-at, Covered, line, pair, covered}
 use Rattle.iter.proofs.Items.{items-step, size-le, size-some}

@@ -1,20 +1,19 @@
 -- Items handed out one after another, cut at a place: those that end before it, and those that begin from it on.
-use mathlib.Core.Path.{_≡_, refl, sym, ap, _∙_}
+use mathlib.Core.Path.{_≡_, refl, sym, ap}
 use mathlib.Core.Bool.{Bool, true, false, and-eq-true-iff}
 use mathlib.Core.List.{List, [], _∷_, _++_}
 use Prim.Native.Nat.{ℕ, zero, suc, _+_, _-_, _≤_, _<_}
-use native.Mathlib.Nat.{add-zero}
 use native.Mathlib.Omega.{arith}
 use lib.Dec.{leb, ltb}
 use lib.ListN.{length, length-append}
 use borrow.Author.Tests.{leb-true, leb-false, le-leb, lt-leb, ltb-true, ltb-false, lt-ltb, le-ltb}
 use Rattle.parse.specs.Choice.{if}
-use Rattle.decode.specs.declared.reference.Record.{Record}
 use Rattle.decode.specs.declared.reference.Reading.{Reading}
 use Rattle.decode.specs.declared.reference.Reading.the-variants.{Good, Bad}
+use Rattle.decode.specs.Entry.{entryOf}
 use Rattle.iter.specs.Items.{Item, bytesOf}
 use Rattle.iter.specs.Step.{more}
-use Rattle.handed.specs.Handed.{Handed, good, peeled, error, Given, partsBy, partsOf, handedBy, handedAt, handed, whats}
+use Rattle.handed.specs.Handed.{Handed, good, error, Given, handedBy, handedAt, handed, whats}
 use Rattle.handed.specs.Lines.{Each}
 use Rattle.checks.specs.Passes.{isGood, allGood}
 use Rattle.damage.specs.Damage.{endingBefore, beginningFrom, recordBy, recordsIn}
@@ -146,13 +145,9 @@ module _ (n : ℕ) where
       rest′ : List Given
       rest′ = handed n (at′ + length (i .bytes)) (more item′) l
 
-      parts : (bytes name : List ℕ) (o : ℕ) → recordsIn rest ≡ whats rest′ → recordBy (partsBy n bytes name o) (recordsIn rest) ≡ partsBy n bytes name o ∷ whats rest′
-      parts bytes name zero e = ap (λ (x : List Handed). partsBy n bytes name zero ∷ x) e
-      parts bytes name (suc o) e = ap (λ (x : List Handed). partsBy n bytes name (suc o) ∷ x) e
-
       go : (w : Reading) → isGood w ≡ true → recordsIn rest ≡ whats rest′
           → recordBy (handedBy n item (i .bytes) w) (recordsIn rest) ≡ handedBy n item′ (i .bytes) w ∷ whats rest′
-      go (Good r) h e = parts (i .bytes) _ (r .peeled) e
+      go (Good r) h e = ap (λ (x : List Handed). good (entryOf n (i .bytes) r) ∷ x) e
       go (Bad f) h e = cc
 
   pub no-errors : (P : Given → Type 0) (at item : ℕ) (l : List Item) → allGood l ≡ true
@@ -162,12 +157,8 @@ module _ (n : ℕ) where
       let both = and-eq-true-iff (isGood (i .what)) (allGood l) .0 g in
       (go (i .what) (both .0), no-errors P (at + length (i .bytes)) (more item) l (both .1))
     where
-      none : (bytes name : List ℕ) (o : ℕ) {A : Type 0} (k : ℕ) (text : List ℕ) → partsBy n bytes name o ≡ error k text → A
-      none bytes name zero k text e = absurd (let z : _≡_ {A = ℕ} 0 1 = cc in omega arith)
-      none bytes name (suc o) k text e = absurd (let z : _≡_ {A = ℕ} 0 1 = cc in omega arith)
-
       go : (w : Reading) → isGood w ≡ true → (k : ℕ) (text : List ℕ) → handedBy n item (i .bytes) w ≡ error k text → P (handedAt n at item i)
-      go (Good r) h k text e = none (i .bytes) _ (r .peeled) k text e
+      go (Good r) h k text e = absurd (let z : _≡_ {A = ℕ} 0 1 = cc in omega arith)
       go (Bad f) h k text e = absurd (let z : _≡_ {A = ℕ} 0 1 = cc in omega arith)
 
   pub later : (at item : ℕ) (l : List Item) (place : ℕ) → place ≤ at → Each (λ g. place ≤ g .place) (handed n at item l)

@@ -18,28 +18,28 @@ use Rattle.start.specs.declared.StartAnswer.the-variants as started
 use Rattle.start.specs.Start.{startOf, startAnswer}
 use Rattle.iter.specs.declared.step.StepAnswer.the-variants as stepped
 use Rattle.iter.specs.Step.{stepOf, stepAnswer}
-use Rattle.handed.specs.Handed.{Handed, good, peeled, error, Given, whats}
-use Rattle.handed.specs.Run.{Stop, ended, readOf, outOf, stopOf}
+use Rattle.handed.specs.Handed.{Handed, good, error, Given, whats}
+use Rattle.handed.specs.Iteration.{saidEnd, readOf, outOf, stopOf}
 use Rattle.handed.specs.Lines.{InLines, Each}
 use Rattle.checks.specs.declared.Verdict.the-variants.{Clean}
 use Rattle.checks.specs.declared.CheckAnswer.the-variants as checked
 use Rattle.checks.specs.Check.{checkAnswer}
 
--- ---- the file: header, kept bytes, the run, the rest
+-- ---- the file: header, the bytes that are left in front of the run, the run, the rest
 
 abbrev pub whole : List ℕ → List ℕ → List ℕ → List ℕ → List ℕ
-whole header kept run rest = header ++ (kept ++ (run ++ rest))
+whole header left run rest = header ++ (left ++ (run ++ rest))
 
 -- "In a file that passes the check, replace one run of bytes after the header by any others (within the size limit; without a header, not
 -- making `#` the first byte)": `#` is 35
-pub record Replaced (kind : ℕ) (header kept run other rest : List ℕ) : Type 0 where
+pub record Replaced (kind : ℕ) (header left run other rest : List ℕ) : Type 0 where
   pub count : ℕ
-  pub passes : checkAnswer kind (whole header kept run rest) ≡ checked.Done (Clean count)
+  pub passes : checkAnswer kind (whole header left run rest) ≡ checked.Done (Clean count)
   pub head : Header
-  pub reads : headerAnswer (whole header kept run rest) ≡ headed.Done (opened.Header head)
+  pub reads : headerAnswer (whole header left run rest) ≡ headed.Done (opened.Header head)
   pub behind : head .body ≡ length header
-  pub limit : overLimit (length (whole header kept other rest)) ≡ false
-  pub no-hash : header ≡ [] → getD (whole header kept other rest) 0 0 ≡ 35 → ⊥
+  pub limit : overLimit (length (whole header left other rest)) ≡ false
+  pub no-hash : header ≡ [] → getD (whole header left other rest) 0 0 ≡ 35 → ⊥
 
 -- ---- of what was handed out
 
@@ -55,8 +55,7 @@ beginningFrom place (g ∷ l) = if (leb place (g .place)) (g ∷ beginningFrom p
 
 -- the records of it
 abbrev pub recordBy : Handed → List Handed → List Handed
-recordBy (good id name) l = good id name ∷ l
-recordBy (peeled id name peeledId) l = peeled id name peeledId ∷ l
+recordBy (good e) l = good e ∷ l
 recordBy (error item text) l = l
 
 abbrev pub recordsIn : List Given → List Handed
@@ -69,59 +68,59 @@ recordsIn (g ∷ l) = recordBy (g .what) (recordsIn l)
 abbrev pub handedOut : ℕ → List ℕ → List Given
 handedOut n file = outOf (readOf paper n file)
 
--- g is an error that covers exactly one line. In the damaged file that line begins at the place here; in the file before it began at the place
--- there, and the records begin behind it: none of them has a part in the line
+-- g, an error behind the line feed, is the one line right behind that line feed (a `^` line that has lost its record). The line has so many bytes (line), begins at
+-- the place here in the damaged file and at the place there in the file before, and every one of the records begins behind it
 pub record Aside (g : Given) (here there line : ℕ) (records : List Given) : Type 0 where
   pub begins : g .place ≡ here
   pub ends : g .next ≡ here + line
   pub behind : Each (λ r. there + line ≤ r .place) records
 
 -- a line feed (10) behind the run: the rest is a, LF, c
-module _ (n : ℕ) (header kept : List ℕ) (run other a c : List ℕ) where
+module _ (n : ℕ) (header left : List ℕ) (run other a c : List ℕ) where
   -- the two files, what is handed out of each, and the place behind the line feed in each
-  abbrev pub before : List Given
-  before = handedOut n (whole header kept run (a ++ 10 ∷ c))
+  abbrev pub handedBefore : List Given
+  handedBefore = handedOut n (whole header left run (a ++ 10 ∷ c))
 
-  abbrev pub after : List Given
-  after = handedOut n (whole header kept other (a ++ 10 ∷ c))
+  abbrev pub handedAfter : List Given
+  handedAfter = handedOut n (whole header left other (a ++ 10 ∷ c))
 
   abbrev pub placeBefore : ℕ
-  placeBefore = suc (length (header ++ (kept ++ (run ++ a))))
+  placeBefore = suc (length (header ++ (left ++ (run ++ a))))
 
   abbrev pub placeAfter : ℕ
-  placeAfter = suc (length (header ++ (kept ++ (other ++ a))))
+  placeAfter = suc (length (header ++ (left ++ (other ++ a))))
 
   pub record Behind : Type 0 where
     -- "every record beginning after the first line feed behind the run, comes out unchanged and in order"
-    pub records : recordsIn (beginningFrom placeAfter after) ≡ whats (beginningFrom placeBefore before)
+    pub records : recordsIn (beginningFrom placeAfter handedAfter) ≡ whats (beginningFrom placeBefore handedBefore)
     pub between : List Given
-    pub in-order : after ≡ endingBefore (length (header ++ kept)) before ++ (between ++ beginningFrom placeAfter after)
+    pub in-order : handedAfter ≡ endingBefore (length (header ++ left)) handedBefore ++ (between ++ beginningFrom placeAfter handedAfter)
     -- "and no error after that line feed concerns a line of those records"
     pub errors : Each (λ g. (item : ℕ) (text : List ℕ) → g .what ≡ error item text
-        → Aside g placeAfter placeBefore (lineLen c) (beginningFrom placeBefore before)) (beginningFrom placeAfter after)
+        → Aside g placeAfter placeBefore (lineLen c) (beginningFrom placeBefore handedBefore)) (beginningFrom placeAfter handedAfter)
 
-pub record Kept (kind n : ℕ) (header kept run other rest : List ℕ) : Type 0 where
+pub record Kept (kind n : ℕ) (header left run other rest : List ℕ) : Type 0 where
   -- "Read from the start": each call answers what the reading is made of
-  pub starts : startAnswer kind (whole header kept other rest) ≡ started.Done (startOf paper (whole header kept other rest))
+  pub starts : startAnswer kind (whole header left other rest) ≡ started.Done (startOf paper (whole header left other rest))
   pub steps : (place item : ℕ)
-      → stepAnswer kind [] (whole header kept other rest) place item ≡ stepped.Done (stepOf paper n [] (whole header kept other rest) place item)
+      → stepAnswer kind [] (whole header left other rest) place item ≡ stepped.Done (stepOf paper n [] (whole header left other rest) place item)
   -- it starts at the same place and with the same item number as before
-  pub start : startOf paper (whole header kept other rest) ≡ startOf paper (whole header kept run rest)
+  pub start : startOf paper (whole header left other rest) ≡ startOf paper (whole header left run rest)
   -- the reading comes to the end
   pub last : ℕ
-  pub end : stopOf (readOf paper n (whole header kept other rest)) ≡ ended (length (whole header kept other rest)) last
+  pub end : stopOf (readOf paper n (whole header left other rest)) ≡ saidEnd (length (whole header left other rest)) last
   -- what is handed out of the file before is records alone
-  pub all-records : recordsIn (handedOut n (whole header kept run rest)) ≡ whats (handedOut n (whole header kept run rest))
+  pub all-records : recordsIn (handedOut n (whole header left run rest)) ≡ whats (handedOut n (whole header left run rest))
   -- "every record ending before the run with at least one kept byte between [..] comes out unchanged and in order"
   pub others : List Given
-  pub before : handedOut n (whole header kept other rest) ≡ endingBefore (length (header ++ kept)) (handedOut n (whole header kept run rest)) ++ others
+  pub in-front : handedOut n (whole header left other rest) ≡ endingBefore (length (header ++ left)) (handedOut n (whole header left run rest)) ++ others
   -- "every record beginning after the first line feed behind the run": behind any one
-  pub behind : (a c : List ℕ) → rest ≡ a ++ 10 ∷ c → Behind n header kept run other a c
+  pub behind : (a c : List ℕ) → rest ≡ a ++ 10 ∷ c → Behind n header left run other a c
   -- "All other bytes handed out are parts of lines standing in the damaged file."
-  pub parts : Each (λ g. InLines (whole header kept other rest) (g .what)) (handedOut n (whole header kept other rest))
+  pub parts : Each (λ g. InLines (whole header left other rest) (g .what)) (handedOut n (whole header left other rest))
 
 -- for both kinds
 abbrev pub Demand3 : Type 0
 Demand3 =
-    (kind n : ℕ) → digitsOf kind ≡ Digits n → (header kept run other rest : List ℕ) → Replaced kind header kept run other rest
-    → Kept kind n header kept run other rest
+    (kind n : ℕ) → digitsOf kind ≡ Digits n → (header left run other rest : List ℕ) → Replaced kind header left run other rest
+    → Kept kind n header left run other rest

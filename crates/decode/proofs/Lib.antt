@@ -1,3 +1,4 @@
+pub mod Entry
 pub mod Locality
 pub mod Parts
 pub mod Records

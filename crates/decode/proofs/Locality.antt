@@ -1,18 +1,16 @@
 -- A good record is determined by its own bytes and the byte behind them; its lines are lines.
-use mathlib.Core.Path.{_≡_, refl, sym, ap, _∙_}
-use mathlib.Core.Bool.{Bool, true, false, not}
-use mathlib.Core.List.{List, [], _∷_, _++_}
-use Prim.Native.Nat.{ℕ, zero, suc, _+_, _-_, _≤_, _<_}
+use mathlib.Core.Path.{_≡_, sym, ap, _∙_}
+use mathlib.Core.Bool.{not}
+use mathlib.Core.List.{List, _∷_, _++_}
+use Prim.Native.Nat.{ℕ, suc, _+_, _-_, _≤_, _<_}
 use native.Mathlib.Omega.{arith}
-use lib.ListN.{getD, length, take, drop, length-append, length-drop}
+use lib.ListN.{getD, length, take, drop, length-drop}
 use lib.Seq.{drop-append-le, take-append-le}
 use Rattle.class.specs.Class.{Classes, paper, isHex, isLineEnd}
-use Rattle.parse.specs.Run.{span}
 use Rattle.parse.specs.Line.{eol, lineLen, textLen}
 use Rattle.parse.proofs.Fronts.{at-drop, same-at, span-local, span-ge, lineLen-skip, eol-local, eol-line, hex-no10, text-no10}
-use Rattle.name.specs.Name.{validName}
 use Rattle.decode.specs.declared.reference.Record.{Record}
-use Rattle.decode.specs.declared.reference.Reading.the-variants.{Good, Bad}
+use Rattle.decode.specs.declared.reference.Reading.the-variants.{Good}
 use Rattle.decode.specs.Record.{recordOf}
 use Rattle.decode.proofs.Records.{nameLen, afterName, headLen, Head, peelLen, Peel, View, is-bad, plain, peeled, view, plain-is, peeled-is}
 

@@ -39,6 +39,11 @@ recordOf byte n s =
     (Bad Space))
     (Bad Id)
 
+-- what comes of it: f of the record, or g of the part that can't be read
+abbrev pub decoded {ℓ} : {A : Type ℓ} → Reading → (Record → A) → (Fault → A) → A
+decoded (Good r) f g = f r
+decoded (Bad why) f g = g why
+
 -- the paper's number for each part that can't be read
 abbrev pub faultNumber : Fault → ℕ
 faultNumber Id = 4

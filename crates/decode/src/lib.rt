@@ -1,4 +1,4 @@
-// The format of a packed-refs file, read from the front of lent bytes.
+// One record of a packed-refs file, read from the front of lent bytes.
 //
 // A file is an optional header line and a body of records in name order:
 //

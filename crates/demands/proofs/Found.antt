@@ -1,10 +1,10 @@
 -- Demand 2: behind the header of a file that passes the check, a valid name is found exactly if a record has it, and a listing hands out
 -- exactly the records with the prefix.
-use mathlib.Core.Path.{_≡_, refl, sym, ap, _∙_}
-use mathlib.Core.Bool.{Bool, true, false}
+use mathlib.Core.Path.{_≡_, sym, ap, _∙_}
+use mathlib.Core.Bool.{true, false}
 use mathlib.Core.List.{List}
 use mathlib.Core.Logic.{_⊎_, inl, inr}
-use Prim.Native.Nat.{ℕ, _+_, _-_, _≤_, _<_}
+use Prim.Native.Nat.{ℕ, _-_}
 use native.Mathlib.Omega.{arith}
 use lib.ListN.{length, drop, length-drop}
 use borrow.Author.Tests.{le-ltb, ltb-false}
@@ -17,28 +17,23 @@ use Rattle.header.specs.declared.Opened.the-variants as opened
 use Rattle.header.specs.Header.{headerOf}
 use Rattle.decode.specs.declared.reference.Record.{Record}
 use Rattle.start.specs.Start.{firstItem}
-use Rattle.iter.specs.Items.{Item, items}
-use Rattle.iter.specs.Stands.{Named}
-use Rattle.iter.specs.Step.{stepOf, stepAnswer}
-use Rattle.iter.specs.declared.step.StepAnswer.the-variants as stepped
+use Rattle.iter.specs.Items.{items}
+use Rattle.iter.specs.Step.{stepAnswer}
 use Rattle.handed.specs.Handed.{Given, handed, whats}
-use Rattle.handed.specs.Run.{readOf, outOf}
-use Rattle.handed.specs.Hands.{allOf, raised}
-use Rattle.handed.proofs.Runs.{reads-file}
+use Rattle.handed.specs.Iteration.{readOf, outOf}
+use Rattle.handed.specs.Hands.{raised}
+use Rattle.handed.proofs.Iterations.{reads-file}
 use Rattle.checks.specs.declared.Verdict.the-variants.{Clean}
 use Rattle.checks.specs.Check.{checkOf}
-use Rattle.checks.specs.Passes.{allGood, Passes}
 use Rattle.checks.proofs.Asked.{passed, opened-as, some-digits}
-use Rattle.find.specs.declared.lookup.Lookup.{Lookup}
-use Rattle.find.specs.declared.lookup.Lookup.the-variants.{Charted, BadRecord, Unsure, Absent, BadName}
+use Rattle.find.specs.declared.lookup.Lookup.the-variants.{Charted, Absent}
 use Rattle.find.specs.declared.lookup.LookupAnswer.the-variants as looked
-use Rattle.find.specs.declared.prefix_start.PrefixStart.the-variants.{From}
 use Rattle.find.specs.declared.prefix_start.PrefixStartAnswer.the-variants as listed
 use Rattle.find.specs.Lookup.{lookupOf, lookupAnswer, lookupNumber}
-use Rattle.find.specs.PrefixStart.{prefixStartOf, prefixStartAnswer}
+use Rattle.find.specs.PrefixStart.{prefixStartAnswer}
 use Rattle.find.specs.Present.{FoundExactly, ListsExactly, withPrefix}
 use Rattle.find.proofs.InFile.{body-passes, found-in-file, lists-in-file}
-use Rattle.demands.specs.Found.{Checked, bodyOf, In, Has, found, FoundIfThere, wanted, ListedIfWanted, Demand2}
+use Rattle.demands.specs.Found.{Checked, bodyOf, found, FoundIfThere, wanted, ListedIfWanted, Demand2}
 use Rattle.demands.proofs.Handed.{stood, stands-in, wanted-is}
 
 -- a part of bytes within the limit is within it

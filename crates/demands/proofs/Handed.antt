@@ -2,27 +2,22 @@
 use mathlib.Core.Path.{_≡_, refl, sym, ap, _∙_}
 use mathlib.Core.Bool.{Bool, true, false, and-eq-true-iff}
 use mathlib.Core.List.{List, [], _∷_, _++_}
-use Prim.Native.Nat.{ℕ, zero, suc, _+_, _<_}
+use Prim.Native.Nat.{ℕ, _+_}
 use native.Mathlib.Nat.{add-zero}
 use native.Mathlib.Omega.{arith}
-use lib.ListN.{length, take, drop, length-append}
-use lib.Seq.{length-take-le}
+use lib.ListN.{length, drop, length-append}
 use Rattle.parse.specs.Choice.{if}
 use Rattle.class.specs.Class.{paper}
 use Rattle.compare.specs.Prefix.{begins}
-use Rattle.decode.specs.declared.reference.Fault.{Fault}
 use Rattle.decode.specs.declared.reference.Record.{Record}
 use Rattle.decode.specs.declared.reference.Reading.{Reading}
 use Rattle.decode.specs.declared.reference.Reading.the-variants.{Good, Bad}
-use Rattle.decode.specs.Record.{recordOf}
-use Rattle.decode.proofs.Records.{fits}
-use Rattle.iter.specs.Items.{Item, itemOf, items, bytesOf, nameOf}
+use Rattle.decode.specs.Entry.{Entry, entryOf}
+use Rattle.iter.specs.Items.{Item, items, bytesOf, nameOf}
 use Rattle.iter.specs.Stands.{Stands, Named}
 use Rattle.iter.specs.Step.{more}
-use Rattle.iter.proofs.Each.{each}
-use Rattle.iter.proofs.Items.{size-good}
-use Rattle.handed.specs.Handed.{Handed, Given, given, partsBy, partsOf, handedBy, handedAt, handed, whats}
-use Rattle.handed.proofs.Runs.{parts-inside}
+use Rattle.iter.proofs.Entries.{stands-as}
+use Rattle.handed.specs.Handed.{Handed, good, Given, given, handedBy, handedAt, handed, whats}
 use Rattle.checks.specs.Passes.{isGood, allGood}
 use Rattle.find.specs.Present.{withPrefix}
 use Rattle.demands.specs.Found.{In, Has, wantedBy, wanted}
@@ -69,33 +64,9 @@ module _ (n : ℕ) where
   -- ---- a record that stands in a body is handed out by its places
 
   module _ (s : List ℕ) where
-    stands-as : {place : ℕ} {it : Item} {r : Record} → Stands paper n s place it → it .what ≡ Good r
-        → (length (it .bytes) ≡ r .size) × (partsOf n (it .bytes) r ≡ partsOf n (drop place s) r)
-    stands-as {place} {it} {r} x reads =
-        let t = drop place s in
-        let e : it ≡ itemOf paper n t = each n s place it x .read in
-        let q : recordOf paper n t ≡ Good r = sym (ap (λ (j : Item). j .what) e) ∙ reads in
-        let b : it .bytes ≡ take (r .size) t = ap (λ (j : Item). j .bytes) e ∙ ap (λ (k : ℕ). take k t) (size-good paper n t r q) in
-        (ap length b ∙ length-take-le (r .size) t (fits paper n t r q .inside), ap (λ (y : List ℕ). partsOf n y r) b ∙ parts-inside paper n t r q)
-
-    -- its name
-    has-name : (wanted : List ℕ) (bytes : List ℕ) (r : Record) → Has wanted (partsOf n bytes r) → nameOf n (record { what = Good r; bytes = bytes }) ≡ wanted
-    has-name wanted bytes r h = go (r .peeled) h
-      where
-        go : (o : ℕ) → Has wanted (partsBy n bytes (take (r .«name_len») (drop (n + 1) bytes)) o) → take (r .«name_len») (drop (n + 1) bytes) ≡ wanted
-        go zero h = h
-        go (suc o) h = h
-
-    name-has : (wanted : List ℕ) (bytes : List ℕ) (r : Record) → nameOf n (record { what = Good r; bytes = bytes }) ≡ wanted → Has wanted (partsOf n bytes r)
-    name-has wanted bytes r h = go (r .peeled)
-      where
-        go : (o : ℕ) → Has wanted (partsBy n bytes (take (r .«name_len») (drop (n + 1) bytes)) o)
-        go zero = h
-        go (suc o) = h
-
     -- the record at a place of the body, where the body begins at a place
     abbrev pub told : ℕ → ℕ → Record → Given
-    told at place r = given (at + place) (at + place + r .size) (partsOf n (drop place s) r)
+    told at place r = given (at + place) (at + place + r .size) (good (entryOf n (drop place s) r))
 
     pub record Stood (at : ℕ) (wanted : List ℕ) (g : Given) : Type 0 where
       pub place : ℕ
@@ -115,11 +86,11 @@ module _ (n : ℕ) where
             → Has wanted (handedBy n (y .item) (y .it .bytes) w) → Stood at wanted g
         go (Bad f) y e stands k = absurd k
         go (Good r) y e stands k =
-            let (long, parts) = stands-as stands e in
+            let (long, parts) = stands-as n s stands e in
             record {
               place = length (bytesOf (y .before));
               r = r;
-              named = record { it = y .it; stands = stands; good = e; name-is = rw e (has-name wanted (y .it .bytes) r k) };
+              named = record { it = y .it; stands = stands; good = e; name-is = rw e k };
               is = rw (y .is, e, long, parts);
             }
 
@@ -127,10 +98,10 @@ module _ (n : ℕ) where
         → In (told at place r) (handed n at item (items paper n s)) × Has wanted (told at place r .what)
     stands-in at item wanted place r x =
         let st = x .stands in
-        let (long, parts) = stands-as st (x .good) in
+        let (long, parts) = stands-as n s st (x .good) in
         let (k, inside) = to-given (st .before) (x .it) (st .after) at item in
         let e : handedAt n (at + length (bytesOf (st .before))) k (x .it) ≡ told at place r = rw (st .here, x .good, long, parts) in
-        (rw e at (rw (sym (st .all)) at inside), rw parts at (name-has wanted (x .it .bytes) r (rw (x .good) at (x .name-is))))
+        (rw e at (rw (sym (st .all)) at inside), ap (λ (y : Entry). y .name) (sym parts) ∙ (rw (x .good) at (x .name-is)))
 
   -- ---- among records, those with a prefix
 
@@ -145,10 +116,8 @@ module _ (n : ℕ) where
       others : List Handed
       others = wanted prefix (whats (handed n (at′ + length (i .bytes)) (more item′) l))
 
-      parts : (bytes name : List ℕ) (o : ℕ) (b : Bool) → begins prefix name ≡ b
-          → wantedBy prefix (partsBy n bytes name o) others ≡ if b (partsBy n bytes name o ∷ others) others
-      parts bytes name zero b e = rw e
-      parts bytes name (suc o) b e = rw e
+      one : (y : Entry) (b : Bool) → begins prefix (y .name) ≡ b → wantedBy prefix (good y) others ≡ if b (good y ∷ others) others
+      one y b e = ap (λ (v : Bool). if v (good y ∷ others) others) e
 
       go : (w : Reading) → i .what ≡ w → isGood w ≡ true → (b : Bool) → begins prefix (nameOf n i) ≡ b
           → ((p k : ℕ) → whats (handed n p k (withPrefix n prefix l)) ≡ others)
@@ -157,6 +126,6 @@ module _ (n : ℕ) where
       go (Bad f) e h b q ih = absurd (let z : _≡_ {A = ℕ} 0 1 = cc in omega arith)
       go (Good r) e h true q ih =
           rw e
-          (ap (λ (m : List Handed). partsOf n (i .bytes) r ∷ m) (ih (at + length (i .bytes)) (more item))
-          ∙ sym (parts (i .bytes) (take (r .«name_len») (drop (n + 1) (i .bytes))) (r .peeled) true (rw e at q)))
-      go (Good r) e h false q ih = rw e (ih at item ∙ sym (parts (i .bytes) (take (r .«name_len») (drop (n + 1) (i .bytes))) (r .peeled) false (rw e at q)))
+          (ap (λ (m : List Handed). good (entryOf n (i .bytes) r) ∷ m) (ih (at + length (i .bytes)) (more item))
+          ∙ sym (one (entryOf n (i .bytes) r) true (rw e at q)))
+      go (Good r) e h false q ih = rw e (ih at item ∙ sym (one (entryOf n (i .bytes) r) false (rw e at q)))

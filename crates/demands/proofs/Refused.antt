@@ -1,21 +1,27 @@
 -- Demand 1: every call is answered or refused with one of document 01's numbers, and what a refused merge leaves of the lent memory.
-use mathlib.Core.Path.{_≡_, refl, sym, ap, _∙_}
+use mathlib.Core.Path.{_≡_, refl}
 use mathlib.Core.Bool.{Bool, true, false}
 use mathlib.Core.List.{List, [], _∷_, _++_}
 use Prim.Native.Nat.{ℕ}
 use native.Mathlib.Omega.{arith}
-use lib.Dec.{ltb}
+use lib.Dec.{eqb, ltb}
 use lib.ListN.{length, drop}
+use borrow.Author.Tests.{ne-eqb, le-ltb}
 use Rattle.parse.specs.Choice.{if}
 use Rattle.parse.specs.declared.limit.Admission.{Admission}
 use Rattle.parse.specs.declared.limit.Admission.the-variants as admitted
-use Rattle.parse.specs.Limit.{overLimit, admission}
-use Rattle.class.specs.Class.{paper}
+use Rattle.parse.specs.Limit.{overLimit, admission, admissionNumber}
+use Rattle.class.specs.Class.{Classes, paper}
+use Rattle.compare.specs.Order.{smaller}
 use Rattle.name.specs.Name.{validName}
+use Rattle.decode.specs.Entry.{Entry}
 use Rattle.reply_file.specs.Head.{nameNumber}
 use Rattle.decode.specs.declared.reference.Fault.{Fault}
 use Rattle.decode.specs.declared.reference.Fault.the-variants.{Id, Space, LineEnd, Name, Peeled}
-use Rattle.decode.specs.Record.{faultNumber}
+use Rattle.decode.specs.declared.reference.Record.{Record}
+use Rattle.decode.specs.declared.reference.Reading.{Reading}
+use Rattle.decode.specs.declared.reference.Reading.the-variants.{Good, Bad}
+use Rattle.decode.specs.Record.{recordOf, faultNumber}
 use Rattle.header.specs.declared.Opened.the-variants as opened
 use Rattle.header.specs.declared.HeaderAnswer.{HeaderAnswer}
 use Rattle.header.specs.declared.HeaderAnswer.the-variants as headed
@@ -26,6 +32,7 @@ use Rattle.start.specs.declared.StartAnswer.the-variants as started
 use Rattle.start.specs.Start.{startAnswer, startNumber}
 use Rattle.iter.specs.declared.step.StepAnswer.{StepAnswer}
 use Rattle.iter.specs.declared.step.StepAnswer.the-variants as stepped
+use Rattle.iter.specs.Items.{nameIn}
 use Rattle.iter.specs.Step.{stepAnswer, stepNumber}
 use Rattle.checks.specs.declared.Refusal.{Refusal}
 use Rattle.checks.specs.declared.Refusal.the-variants as refusal
@@ -33,7 +40,8 @@ use Rattle.checks.specs.declared.Verdict.{Verdict}
 use Rattle.checks.specs.declared.Verdict.the-variants as verdict
 use Rattle.checks.specs.declared.CheckAnswer.{CheckAnswer}
 use Rattle.checks.specs.declared.CheckAnswer.the-variants as checked
-use Rattle.checks.specs.Check.{checkOf, checkAnswer, checkNumber, refusalNumber}
+use Rattle.checks.specs.declared.Turn.the-variants as turn
+use Rattle.checks.specs.Check.{checkOf, checkAnswer, checkNumber, refusalNumber, turnBy, turnOf, turnNumber}
 use Rattle.ask.specs.declared.Told.the-variants as told
 use Rattle.ask.specs.declared.AskAnswer.{AskAnswer}
 use Rattle.ask.specs.declared.AskAnswer.the-variants as asked
@@ -55,19 +63,19 @@ use Rattle.places.specs.declared.name.Layout.the-variants as layout
 use Rattle.places.specs.Name.{standingName}
 use Rattle.sort.specs.declared.twin.Twin.{Twin}
 use Rattle.sort.specs.declared.twin.Twin.the-variants as twin
+use Rattle.sort.specs.Sorted.{sorted}
 use Rattle.sort.specs.Twin.{firstTwin}
 use Rattle.edits.specs.declared.list.ListFault.{ListFault}
 use Rattle.edits.specs.declared.list.ListFault.the-variants as fault
 use Rattle.edits.specs.declared.list.Prepared.{Prepared}
 use Rattle.edits.specs.declared.list.Prepared.the-variants as prepared
-use Rattle.edits.specs.List.{Listed, all, bad, editsOf, inOrder, twinsBy, twinsOf, preparedBy, preparedOf, indexBy, indexAfter, listFaultNumber}
+use Rattle.edits.specs.List.{Listed, all, bad, editsOf, inOrder, twinsBy, twinsOf, preparedOf, indexAfter, listFaultNumber, preparedNumber}
 use Rattle.merge.specs.declared.Merged.{Merged}
 use Rattle.merge.specs.declared.Merged.the-variants.{Done, UnknownKind, TooLarge, BadList, ShortIndex, Twins, Refused, NothingToDo, NoRecord, ShortOutput}
-use Rattle.lines.specs.Lines.{Entry}
-use Rattle.merge.specs.Entry.{Override}
+use Rattle.merge.specs.Override.{Override}
 use Rattle.merge.specs.Merge as merged
-use Rattle.merge.specs.Merge.{overridden, isNone, isIdle, newFile, oldEntries, editsInOrder, finished, judgedBy, judged, mergeOf, mergeAnswer, mergeNumber, outputBy, outputAfter, indexAnswer}
-use Rattle.demands.specs.Refused.{AnsweredBy, Numbered, beforeEleven, Filled, Leaves, Demand1}
+use Rattle.merge.specs.Merge.{overridden, isIdle, newFile, oldEntries, editsInOrder, finished, judgedBy, judged, mergeOf, outputOf, mergeAnswer, mergeNumber, outputBy, outputAfter, indexAnswer}
+use Rattle.demands.specs.Refused.{AnsweredBy, beforeEleven, Filled, Leaves, Demand1}
 
 -- ---- each answer has one of its numbers
 
@@ -160,20 +168,39 @@ merge-number NothingToDo = refl
 merge-number NoRecord = refl
 merge-number ShortOutput = refl
 
+admission-number : (a : Admission) → AnsweredBy (admissionNumber a) (0 ∷ 1 ∷ 17 ∷ [])
+admission-number (admitted.Digits n) = refl
+admission-number admitted.UnknownKind = refl
+admission-number admitted.TooLarge = refl
+
+-- a turn speaks of records alone, never of the header
+turn-number : (byte : Classes) (n : ℕ) (file : List ℕ) (place : ℕ) (last : List ℕ) → AnsweredBy (turnNumber (turnOf byte n file place last)) (0 ∷ 4 ∷ 6 ∷ [])
+unfolding turnOf
+turn-number byte n file place last = go (ltb place (length file)) (recordOf byte n (drop place file))
+  where
+    by-name : (b : Bool) (r : Record) → AnsweredBy (turnNumber (if b (turn.On r) (turn.Refused (refusal.Unsorted place)))) (0 ∷ 4 ∷ 6 ∷ [])
+    by-name true r = refl
+    by-name false r = refl
+
+    go : (b : Bool) (w : Reading) → AnsweredBy (turnNumber (if b (turnBy n last (drop place file) place w) turn.End)) (0 ∷ 4 ∷ 6 ∷ [])
+    go false w = refl
+    go true (Good r) = by-name (smaller last (nameIn n (Good r) (drop place file))) r
+    go true (Bad f) = rw (four f)
+
+prepared-number : (p : Prepared) → AnsweredBy (preparedNumber p) (0 ∷ 17 ∷ 7 ∷ 8 ∷ 9 ∷ 10 ∷ 11 ∷ [])
+prepared-number (prepared.Ready k) = refl
+prepared-number (prepared.BadList (fault.BadEdit place edit.Malformed)) = refl
+prepared-number (prepared.BadList (fault.BadEdit place edit.BadName)) = refl
+prepared-number (prepared.BadList (fault.TooMany place)) = refl
+prepared-number prepared.ShortIndex = refl
+prepared-number (prepared.Twins place) = refl
+prepared-number prepared.TooLarge = refl
+
 -- ---- what a merge leaves
 
 -- only a merge that is done writes
 kept-out : (new out : List ℕ) (m : Merged) → (mergeNumber m ≡ 0 → ⊥) → outputBy new out m ≡ out
-kept-out new out (Done len) not-done = absurd (not-done refl)
-kept-out new out UnknownKind not-done = refl
-kept-out new out TooLarge not-done = refl
-kept-out new out (BadList why) not-done = refl
-kept-out new out ShortIndex not-done = refl
-kept-out new out (Twins place) not-done = refl
-kept-out new out (Refused why) not-done = refl
-kept-out new out NothingToDo not-done = refl
-kept-out new out NoRecord not-done = refl
-kept-out new out ShortOutput not-done = refl
+kept-out new out m not-done = rw (ne-eqb (mergeNumber m) 0 not-done)
 
 -- behind 11 no number is given that stands before it
 refusal-late : (why : Refusal) → beforeEleven (refusalNumber why) ≡ false
@@ -183,7 +210,7 @@ refusal-late (refusal.Unsorted place) = refl
 
 finished-late : (olds : List Entry) (edits : List Override) (room : ℕ) → beforeEleven (mergeNumber (finished olds edits room)) ≡ false
 unfolding finished
-finished-late olds edits room = go (isIdle olds edits) (isNone (overridden olds edits)) (ltb room (length (newFile olds edits))) (length (newFile olds edits))
+finished-late olds edits room = go (isIdle olds edits) (eqb (length (overridden olds edits)) 0) (ltb room (length (newFile olds edits))) (length (newFile olds edits))
   where
     go : (a b c : Bool) (len : ℕ) → beforeEleven (mergeNumber (if a NothingToDo (if b NoRecord (if c ShortOutput (Done len))))) ≡ false
     go true b c len = refl
@@ -206,7 +233,7 @@ module _ (n : ℕ) (old list index : List ℕ) (room : ℕ) where
         → indexAfter paper n list index ≡ inOrder list places ++ drop (length places) index → Index
 
   index-is : Index
-  unfolding mergeOf preparedOf indexAfter judged twinsOf
+  unfolding mergeOf preparedOf indexAfter judged twinsOf sorted
   index-is = go (overLimit (length list)) refl (editsOf paper n list) refl
     where
       by-twin : (k : ℕ) (t : Twin) → beforeEleven (mergeNumber (merged.listed paper n old list room (twinsBy k t))) ≡ false
@@ -220,7 +247,7 @@ module _ (n : ℕ) (old list index : List ℕ) (room : ℕ) where
 
       go : (b : Bool) → overLimit (length list) ≡ b → (l : Listed) → editsOf paper n list ≡ l → Index
       go true b l e = same (rw b) (rw b)
-      go false b (bad why) e = same (rw (b, e) (fault-early why)) (rw (b, e))
+      go false b (bad why) e = same (rw (b, e) (fault-early why)) (rw (b, e, le-ltb (length index) 0 (omega arith)))
       go false b (all places) e = by-room (ltb (length index) (length places)) refl
         where
           by-room : (c : Bool) → ltb (length index) (length places) ≡ c → Index
@@ -230,7 +257,7 @@ module _ (n : ℕ) (old list index : List ℕ) (room : ℕ) where
 
 module _ (kind : ℕ) (old list index out : List ℕ) where
   leaves : Leaves kind old list index out
-  unfolding mergeAnswer outputAfter indexAnswer
+  unfolding mergeAnswer outputOf outputAfter indexAnswer
   leaves =
       record {
         untouched = out-by (admission kind (length old) (length list)) refl;
@@ -255,7 +282,7 @@ module _ (kind : ℕ) (old list index out : List ℕ) where
               × (beforeEleven (mergeNumber (mergeAnswer kind old list (length index) (length out))) ≡ false → Filled kind old list index out)
           go (same early is) = (λ q. rw e is, λ q. absurd (let z : _≡_ {A = ℕ} 0 1 = cc (rw e at q) in omega arith))
           go (filled late places whole is) =
-              (λ q. absurd (let z : _≡_ {A = ℕ} 0 1 = cc (rw e at q) in omega arith), λ q. record { digits = n; places = places; whole = whole; is = rw e is })
+              (λ q. absurd (let z : _≡_ {A = ℕ} 0 1 = cc (rw e at q) in omega arith), λ q. record { digits = n; kind-is = e; places = places; whole = whole; is = rw e is })
       index-by admitted.UnknownKind e = (λ q. rw e, λ q. absurd (let z : _≡_ {A = ℕ} 0 1 = cc (rw e at q) in omega arith))
       index-by admitted.TooLarge e = (λ q. rw e, λ q. absurd (let z : _≡_ {A = ℕ} 0 1 = cc (rw e at q) in omega arith))
 
@@ -274,6 +301,9 @@ demand-1 =
             ask = λ kind file name. ask-number (askAnswer kind file name);
             loose = λ kind content. loose-number (looseAnswer kind content);
             merge = λ kind old list indexRoom room. merge-number (mergeAnswer kind old list indexRoom room);
+            admit = λ kind size other. admission-number (admission kind size other);
+            turn = turn-number;
+            prepare = λ byte n list room. prepared-number (preparedOf byte n list room);
           };
       leaves = leaves;
     }

@@ -1,5 +1,6 @@
--- The three demands that stand over everything, each of what callers lend and get. What they say beyond this, that answers equal the Rust's within
--- its domain, is compared and not proved (compare/, and the program replay).
+-- The three demands that stand over everything (docs/GUARANTEES.md has their words), each of what callers lend and get. Demand 2 also asks that every operation
+-- follows document 01: that is what each operation's own contract says, and handed/specs/Hands.antt of the items. That answers equal the Rust's within its domain
+-- is compared and not proved (compare/, and the program replay).
 use Rattle.damage.specs.Damage.{Demand3}
 use Rattle.demands.specs.Found.{Demand2}
 use Rattle.demands.specs.Refused.{Demand1}

@@ -17,10 +17,11 @@ use Rattle.header.specs.declared.Opened.the-variants as opened
 use Rattle.header.specs.declared.HeaderAnswer.the-variants as headed
 use Rattle.header.specs.Header.{headerAnswer}
 use Rattle.decode.specs.declared.reference.Record.{Record}
+use Rattle.decode.specs.Entry.{entryOf}
 use Rattle.iter.specs.declared.step.StepAnswer.the-variants as stepped
 use Rattle.iter.specs.Step.{stepOf, stepAnswer}
-use Rattle.handed.specs.Handed.{Handed, good, peeled, error, Given, given, partsOf, whats}
-use Rattle.handed.specs.Run.{ended, runOf, readOf, outOf}
+use Rattle.handed.specs.Handed.{Handed, good, error, Given, given, whats}
+use Rattle.handed.specs.Iteration.{saidEnd, iterate, readOf, outOf}
 use Rattle.checks.specs.declared.Verdict.the-variants.{Clean}
 use Rattle.checks.specs.declared.CheckAnswer.the-variants as checked
 use Rattle.checks.specs.Check.{checkAnswer}
@@ -51,16 +52,15 @@ pub record In (g : Given) (l : List Given) : Type 0 where
 
 -- what was handed out is a record of the wanted name
 abbrev pub Has : List ℕ → Handed → Type 0
-Has wanted (good id name) = name ≡ wanted
-Has wanted (peeled id name peeledId) = name ≡ wanted
+Has wanted (good e) = e .name ≡ wanted
 Has wanted (error item text) = ⊥
 
 -- ---- the lookup
 
 module _ (kind n : ℕ) (file : List ℕ) (c : Checked kind file) (name : List ℕ) where
-  -- what a lookup tells: the record by its places, counted in the body
+  -- what a lookup tells by places counted in the body, as a reader of the whole file is handed it: counted in the file
   abbrev pub found : ℕ → Record → Given
-  found place r = given (c .header .body + place) (c .header .body + place + r .size) (partsOf n (drop place (bodyOf c)) r)
+  found place r = given (c .header .body + place) (c .header .body + place + r .size) (good (entryOf n (drop place (bodyOf c)) r))
 
   pub record FoundIfThere : Type 0 where
     -- a record that has the name is found, and the lookup tells that record
@@ -79,8 +79,7 @@ module _ (kind n : ℕ) (file : List ℕ) (c : Checked kind file) (name : List �
 
 -- of what was handed out, the records whose names begin with a prefix
 abbrev pub wantedBy : List ℕ → Handed → List Handed → List Handed
-wantedBy prefix (good id name) l = if (begins prefix name) (good id name ∷ l) l
-wantedBy prefix (peeled id name peeledId) l = if (begins prefix name) (peeled id name peeledId ∷ l) l
+wantedBy prefix (good e) l = if (begins prefix (e .name)) (good e ∷ l) l
 wantedBy prefix (error item text) l = l
 
 abbrev pub wanted : List ℕ → List Handed → List Handed
@@ -98,7 +97,7 @@ module _ (kind n : ℕ) (file : List ℕ) (c : Checked kind file) (prefix : List
     pub out : List Given
     pub last : ℕ
     pub run : (turns : ℕ) → length (bodyOf c) - place < turns
-        → runOf paper n prefix (bodyOf c) turns place 1 ≡ record { out = out; stop = ended (length (bodyOf c)) last }
+        → iterate paper n prefix (bodyOf c) turns place 1 ≡ record { out = out; stop = saidEnd (length (bodyOf c)) last }
     pub exactly : whats out ≡ wanted prefix (whats (outOf (readOf paper n file)))
 
 -- for both kinds, and names and prefixes within the limit

@@ -1,35 +1,32 @@
 -- Demand 1, of what callers lend and get: every call is answered or refused with a number, and what a refused merge leaves of the lent memory.
 -- That no call faults, overflows or runs for ever is what the proof of each function says, and no function that is exported asks for anything first.
 use mathlib.Core.Path.{_≡_}
-use mathlib.Core.Bool.{Bool, true, false, _||_}
+use mathlib.Core.Bool.{Bool, true, false}
 use mathlib.Core.List.{List, [], _∷_, _++_}
 use Prim.Native.Nat.{ℕ}
-use lib.Dec.{eqb}
 use lib.ListN.{length, drop}
-use Rattle.class.specs.Class.{paper}
+use Rattle.class.specs.Class.{Classes, paper}
+use Rattle.block.specs.Among.{among}
+use Rattle.parse.specs.declared.limit.Admission.the-variants as admitted
+use Rattle.parse.specs.Limit.{admission, admissionNumber}
 use Rattle.header.specs.Header.{headerAnswer, headerNumber}
 use Rattle.start.specs.Start.{startAnswer, startNumber}
 use Rattle.iter.specs.Step.{stepAnswer, stepNumber}
-use Rattle.checks.specs.Check.{checkAnswer, checkNumber}
+use Rattle.checks.specs.Check.{checkAnswer, checkNumber, turnOf, turnNumber}
 use Rattle.ask.specs.Ask.{askAnswer, askNumber}
 use Rattle.find.specs.Lookup.{lookupAnswer, lookupNumber}
 use Rattle.find.specs.PrefixStart.{prefixStartAnswer, prefixStartNumber}
 use Rattle.loose.specs.Loose.{looseAnswer, looseNumber}
 use Rattle.reply_file.specs.Head.{nameNumber}
-use Rattle.edits.specs.List.{Listed, all, editsOf, inOrder}
-use Rattle.merge.specs.declared.Merged.the-variants.{Done}
+use Rattle.edits.specs.List.{all, editsOf, inOrder, preparedOf, preparedNumber}
 use Rattle.merge.specs.Merge.{mergeAnswer, mergeNumber, outputAfter, indexAnswer}
-
-abbrev pub isOneOf : ℕ → List ℕ → Bool
-isOneOf number [] = false
-isOneOf number (k ∷ l) = eqb number k || isOneOf number l
 
 -- ---- "Any bytes, any call: an answer or a numbered refusal"
 
 abbrev pub AnsweredBy : ℕ → List ℕ → Type 0
-AnsweredBy number l = isOneOf number l ≡ true
+AnsweredBy number l = among number l ≡ true
 
-pub record Numbered : Type 0 where
+pub record AllNumbered : Type 0 where
   pub header : (file : List ℕ) → AnsweredBy (headerNumber (headerAnswer file)) (0 ∷ 17 ∷ 2 ∷ [])
   pub name : (name : List ℕ) → AnsweredBy (nameNumber name) (0 ∷ 17 ∷ 3 ∷ [])
   pub start : (kind : ℕ) (file : List ℕ) → AnsweredBy (startNumber (startAnswer kind file)) (0 ∷ 1 ∷ 17 ∷ 2 ∷ [])
@@ -41,12 +38,17 @@ pub record Numbered : Type 0 where
   pub loose : (kind : ℕ) (content : List ℕ) → AnsweredBy (looseNumber (looseAnswer kind content)) (0 ∷ 1 ∷ 17 ∷ 15 ∷ 16 ∷ [])
   pub merge : (kind : ℕ) (old list : List ℕ) (indexRoom room : ℕ)
       → AnsweredBy (mergeNumber (mergeAnswer kind old list indexRoom room)) (0 ∷ 1 ∷ 17 ∷ 7 ∷ 8 ∷ 9 ∷ 10 ∷ 11 ∷ 2 ∷ 4 ∷ 6 ∷ 13 ∷ 14 ∷ 12 ∷ [])
+  -- and what one layer answers to the next
+  pub admit : (kind size other : ℕ) → AnsweredBy (admissionNumber (admission kind size other)) (0 ∷ 1 ∷ 17 ∷ [])
+  pub turn : (byte : Classes) (n : ℕ) (file : List ℕ) (place : ℕ) (last : List ℕ) → AnsweredBy (turnNumber (turnOf byte n file place last)) (0 ∷ 4 ∷ 6 ∷ [])
+  pub prepare : (byte : Classes) (n : ℕ) (list : List ℕ) (room : ℕ)
+      → AnsweredBy (preparedNumber (preparedOf byte n list room)) (0 ∷ 17 ∷ 7 ∷ 8 ∷ 9 ∷ 10 ∷ 11 ∷ [])
 
 -- ---- what a merge leaves of the memory that it is lent
 
 -- the refusals that stand before 11 in "Order: 1, 17, 7/8/9 by place, 10, 11, 2, 4/6 by place, 13, 14, 12."
 abbrev pub beforeEleven : ℕ → Bool
-beforeEleven number = isOneOf number (1 ∷ 17 ∷ 7 ∷ 8 ∷ 9 ∷ 10 ∷ [])
+beforeEleven number = among number (1 ∷ 17 ∷ 7 ∷ 8 ∷ 9 ∷ 10 ∷ [])
 
 module _ (kind : ℕ) (old list index out : List ℕ) where
   abbrev pub number : ℕ
@@ -58,9 +60,10 @@ module _ (kind : ℕ) (old list index out : List ℕ) where
   abbrev pub indexAfterwards : List ℕ
   indexAfterwards = indexAnswer kind old list index
 
-  -- the whole list was read: so many edits, whose places these are
+  -- the whole list was read with ids of the kind's digits: so many edits, whose places these are
   pub record Filled : Type 0 where
     pub digits : ℕ
+    pub kind-is : admission kind (length old) (length list) ≡ admitted.Digits digits
     pub places : List ℕ
     pub whole : editsOf paper digits list ≡ all places
     pub is : indexAfterwards ≡ inOrder list places ++ drop (length places) index
@@ -74,5 +77,5 @@ module _ (kind : ℕ) (old list index out : List ℕ) where
     pub filled : beforeEleven number ≡ false → Filled
 
 pub record Demand1 : Type 0 where
-  pub numbered : Numbered
+  pub numbered : AllNumbered
   pub leaves : (kind : ℕ) (old list index out : List ℕ) → Leaves kind old list index out

@@ -18,4 +18,5 @@ merges = record {
   runs-is-still = λ m k o o′. by-answer k o o′ refl;
   runs-mark-at = λ m k o o′. by-answer k o o′ refl;
   merge-merge = λ m k o o′. clauses-3 (m .𝓤) (λ p q. same k o o′ (one (p .0) (q .0)) (λ i. (tt, (tt, (tt, (one (p .1 .0) (q .1 .0) i, (one (p .1 .1) (q .1 .1) i, tt)))))));
+  merge-with-digits = λ m k o o′. clauses-3 (m .𝓤) (λ p q. same k o o′ (one (p .0) (q .0)) (λ i. (tt, (tt, (tt, (one (p .1 .0) (q .1 .0) i, (one (p .1 .1) (q .1 .1) i, tt)))))));
 }

@@ -11,8 +11,8 @@ use Rattle.reply_lookup.proofs.asked.ask_reply
 use Rattle.reply_loose.proofs.loose_reply
 use Rattle.reply_merge.proofs.merge_reply
 use Rattle.tell.proofs.parts_at
+use Rattle.tell.proofs.no_parts
 use Rattle.tell.proofs.refusal
-use Rattle.tell.proofs.refusal_gives
 use Rattle.tell.proofs.fault_number
 use Rattle.host.proofs.read.packed_refs_header
 use Rattle.host.proofs.read.packed_refs_name
@@ -41,8 +41,8 @@ pub record Boundary : Type 2 where
   pub reply-loose-reply : Determined loose_reply.ended (λ M. loose_reply.clauses)
   pub reply-merge-reply : Determined merge_reply.ended (λ M. merge_reply.clauses)
   pub tell-parts-at : Determined parts_at.ended (λ M. parts_at.clauses)
+  pub tell-no-parts : Determined no_parts.ended (λ M. no_parts.clauses)
   pub tell-refusal : Determined refusal.ended (λ M. refusal.clauses)
-  pub tell-refusal-gives : Determined refusal_gives.ended (λ M. refusal_gives.clauses)
   pub tell-fault-number : Determined fault_number.ended (λ M. fault_number.clauses)
   pub packed-refs-header : Determined packed_refs_header.ended (λ M. packed_refs_header.clauses)
   pub packed-refs-name : Determined packed_refs_name.ended (λ M. packed_refs_name.clauses)

@@ -12,6 +12,7 @@ use Rattle.runs.proofs.survey
 use Rattle.runs.proofs.is_still
 use Rattle.runs.proofs.mark_at
 use Rattle.merge.proofs.merge
+use Rattle.merge.proofs.merge_with_digits
 use Rattle.determined.specs.Outcomes.{Determined}
 
 pub record Merges : Type 2 where
@@ -28,3 +29,4 @@ pub record Merges : Type 2 where
   pub runs-is-still : Determined is_still.ended (λ M. is_still.clauses)
   pub runs-mark-at : Determined mark_at.ended (λ M. mark_at.clauses)
   pub merge-merge : Determined merge.ended (λ M. merge.clauses)
+  pub merge-with-digits : Determined merge_with_digits.ended (λ M. merge_with_digits.clauses)

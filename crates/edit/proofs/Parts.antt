@@ -15,7 +15,6 @@ use Rattle.length.specs.declared.Length.the-variants as long
 use Rattle.length.specs.Length.{lengthAt, measured}
 use Rattle.length.proofs.Groups.{length-small}
 use Rattle.parts.specs.Parts.{editKind, editName}
-use Rattle.edit.specs.declared.Edit.{Edit}
 use Rattle.edit.specs.declared.EditReading.the-variants.{Good, Bad}
 use Rattle.edit.specs.declared.EditFault.the-variants.{Malformed, BadName}
 use Rattle.edit.specs.Edit.{idBytes, namedEdit, editOf}
@@ -24,8 +23,9 @@ module _ (byte : Classes) (n : ℕ) (s : List ℕ) where
   abbrev kind : ℕ
   kind = editKind s 0
 
-  abbrev of-parts : ℕ → ℕ → Edit
-  of-parts len from = record { kind = kind; from = from; «name_len» = len; size = from + len + idBytes kind n }
+  -- what an edit takes whose name of so many bytes stands at a place
+  abbrev taken : ℕ → ℕ → ℕ
+  taken len from = from + len + idBytes kind n
 
   pub record Whole : Type 0 where
     pub len : ℕ
@@ -34,16 +34,16 @@ module _ (byte : Classes) (n : ℕ) (s : List ℕ) where
     pub known : kind ≤ 2
     pub fits : from + len + idBytes kind n ≤ length s
     pub valid : validName byte (editName s 0) ≡ true
-    pub is : editOf byte n s ≡ Good (of-parts len from)
+    pub is : editOf byte n s ≡ Good (taken len from)
 
-  module _ (c : Edit) (e : editOf byte n s ≡ Good c) where
+  module _ (size : ℕ) (e : editOf byte n s ≡ Good size) where
     pub good-whole : Whole
     unfolding editOf namedEdit
     good-whole = go (ltb 0 (length s) && leb kind 2) refl (lengthAt s 1) refl e
       where
         named : (len from : ℕ) → lengthAt s 1 ≡ long.Of len from → kind ≤ 2 → (bad : Bool)
             → (full : Bool) → leb (from + len + idBytes kind n) (length s) ≡ full → (valid : Bool) → validName byte (editName s 0) ≡ valid
-            → if bad (Bad BadName) (if full (if valid (Good (of-parts len from)) (Bad BadName)) (Bad Malformed)) ≡ Good c → Whole
+            → if bad (Bad BadName) (if full (if valid (Good (taken len from)) (Bad BadName)) (Bad Malformed)) ≡ Good size → Whole
         named len from m k true w q v p r = absurd (let z : _≡_ {A = ℕ} 0 1 = cc in omega arith)
         named len from m k false false q v p r = absurd (let z : _≡_ {A = ℕ} 0 1 = cc in omega arith)
         named len from m k false true q false p r = absurd (let z : _≡_ {A = ℕ} 0 1 = cc in omega arith)
@@ -51,7 +51,7 @@ module _ (byte : Classes) (n : ℕ) (s : List ℕ) where
             record { len = len; from = from; measure = m; known = k; fits = leb-true (from + len + idBytes kind n) (length s) q; valid = p; is = e ∙ sym r }
 
         go : (a : Bool) → (ltb 0 (length s) && leb kind 2) ≡ a → (l : Length) → lengthAt s 1 ≡ l
-            → if a (measured l (λ len from. namedEdit byte s kind from len (idBytes kind n)) (Bad Malformed)) (Bad Malformed) ≡ Good c → Whole
+            → if a (measured l (λ len from. namedEdit byte s from len (idBytes kind n)) (Bad Malformed)) (Bad Malformed) ≡ Good size → Whole
         go false t l m q = absurd (let z : _≡_ {A = ℕ} 0 1 = cc in omega arith)
         go true t long.Malformed m q = absurd (let z : _≡_ {A = ℕ} 0 1 = cc in omega arith)
         go true t (long.Of len from) m q =
@@ -60,16 +60,16 @@ module _ (byte : Classes) (n : ℕ) (s : List ℕ) where
             (validName byte (editName s 0)) refl q
 
     -- it takes some bytes, and they stand there
-    edit-fits : (0 < c .size) × (c .size ≤ length s)
+    edit-fits : (0 < size) × (size ≤ length s)
     edit-fits =
         let w = good-whole in
-        let same : Good (of-parts (w .len) (w .from)) ≡ Good c = sym (w .is) ∙ e in
-        let size : w .from + w .len + idBytes kind n ≡ c .size = cc in
+        let same : Good (taken (w .len) (w .from)) ≡ Good size = sym (w .is) ∙ e in
+        let is : w .from + w .len + idBytes kind n ≡ size = cc in
         (omega (arith, length-small s 1 (w .measure)), omega (arith, w .fits))
 
 -- so the next edit stands farther on, or the list ends there
-pub edit-goes-on : (byte : Classes) (n : ℕ) (list : List ℕ) (place : ℕ) (c : Edit) → editOf byte n (drop place list) ≡ Good c
-    → (place < place + c .size) × (place + c .size ≤ length list)
-edit-goes-on byte n list place c e =
-    let fits = edit-fits byte n (drop place list) c e in
+pub edit-goes-on : (byte : Classes) (n : ℕ) (list : List ℕ) (place size : ℕ) → editOf byte n (drop place list) ≡ Good size
+    → (place < place + size) × (place + size ≤ length list)
+edit-goes-on byte n list place size e =
+    let fits = edit-fits byte n (drop place list) size e in
     (omega (arith, fits .0), omega (arith, fits, length-drop place list))

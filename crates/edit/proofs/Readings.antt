@@ -34,33 +34,33 @@ module _ (byte : Classes) (n : ℕ) (s : List ℕ) where
     unfolding editOf
     bad-length h = rw (lt-ltb 0 (length s) some, le-leb kind 2 known, h)
 
-    pub good-length : {len from : ℕ} → lengthAt s 1 ≡ long.Of len from → editOf byte n s ≡ namedEdit byte s kind from len (idBytes kind n)
+    pub good-length : {len from : ℕ} → lengthAt s 1 ≡ long.Of len from → editOf byte n s ≡ namedEdit byte s from len (idBytes kind n)
     unfolding editOf
     good-length h = rw (lt-ltb 0 (length s) some, le-leb kind 2 known, h)
 
 -- ---- an edit behind its length
 
-module _ (byte : Classes) (s : List ℕ) (k from len ids : ℕ) where
-  pub empty-name : len ≡ 0 → namedEdit byte s k from len ids ≡ Bad BadName
+module _ (byte : Classes) (s : List ℕ) (from len ids : ℕ) where
+  pub empty-name : len ≡ 0 → namedEdit byte s from len ids ≡ Bad BadName
   unfolding namedEdit
   empty-name h = rw (eq-eqb len 0 h)
 
-  pub long-name : 4096 < len → namedEdit byte s k from len ids ≡ Bad BadName
+  pub long-name : 4096 < len → namedEdit byte s from len ids ≡ Bad BadName
   unfolding namedEdit
   long-name h = rw (lt-ltb 4096 len h, or-true)
 
   module _ (not-empty : len ≡ 0 → ⊥) (short : len ≤ 4096) where
-    pub cut-short : leb (from + len + ids) (length s) ≡ false → namedEdit byte s k from len ids ≡ Bad Malformed
+    pub cut-short : leb (from + len + ids) (length s) ≡ false → namedEdit byte s from len ids ≡ Bad Malformed
     unfolding namedEdit
     cut-short h = rw (ne-eqb len 0 not-empty, le-ltb 4096 len short, h)
 
     module _ (whole : leb (from + len + ids) (length s) ≡ true) where
-      pub bad-name : validName byte (editName s 0) ≡ false → namedEdit byte s k from len ids ≡ Bad BadName
+      pub bad-name : validName byte (editName s 0) ≡ false → namedEdit byte s from len ids ≡ Bad BadName
       unfolding namedEdit
       bad-name h = rw (ne-eqb len 0 not-empty, le-ltb 4096 len short, whole, h)
 
       pub good-name : validName byte (editName s 0) ≡ true
-          → namedEdit byte s k from len ids ≡ Good (record { kind = k; from = from; «name_len» = len; size = from + len + ids })
+          → namedEdit byte s from len ids ≡ Good (from + len + ids)
       unfolding namedEdit
       good-name h = rw (ne-eqb len 0 not-empty, le-ltb 4096 len short, whole, h)
 

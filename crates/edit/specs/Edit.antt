@@ -18,13 +18,13 @@ use Rattle.edit.specs.declared.EditFault.the-variants.{Malformed, BadNam
 abbrev pub idBytes : ℕ → ℕ → ℕ
 idBytes kind n = kind * (n / 2)
 
--- the end of the sentence below, once kind, length form and ids are known: "length 0 or over 4,096 (8), cut short anywhere behind it (7),
+-- the end of the sentence below, once the length and what the ids take are known: "length 0 or over 4,096 (8), cut short anywhere behind it (7),
 -- name rules (8)"
-unfoldable pub namedEdit : Classes → List ℕ → ℕ → ℕ → ℕ → ℕ → EditReading
-namedEdit byte s kind from len ids =
+unfoldable pub namedEdit : Classes → List ℕ → ℕ → ℕ → ℕ → EditReading
+namedEdit byte s from len ids =
     if (eqb len 0 || ltb 4096 len) (Bad BadName)
     (if (leb (from + len + ids) (length s))
-    (if (validName byte (editName s 0)) (Good (record { kind = kind; from = from; «name_len» = len; size = from + len + ids })) (Bad BadName))
+    (if (validName byte (editName s 0)) (Good (from + len + ids)) (Bad BadName))
     (Bad Malformed))
 
 -- "In each edit: kind (7), length form, an unfinished length included (7), length 0 or over 4,096 (8), cut short anywhere behind it (7),
@@ -33,7 +33,7 @@ unfoldable pub editOf : Classes → ℕ → List ℕ → EditReading
 editOf byte n s =
     let kind = editKind s 0 in
     if (ltb 0 (length s) && leb kind 2)
-    (measured (lengthAt s 1) (λ len from. namedEdit byte s kind from len (idBytes kind n)) (Bad Malformed))
+    (measured (lengthAt s 1) (λ len from. namedEdit byte s from len (idBytes kind n)) (Bad Malformed))
     (Bad Malformed)
 
 -- the paper's number for each fault: "edit list malformed"; "edit name empty, over 4,096 bytes, or breaking the name rules"

@@ -7,17 +7,6 @@ ghost use Rattle.class.specs.Class.{classesOf};
 ghost use Rattle.edit.specs.Edit.{namedEdit, editOf};
 use length::Length;
 
-// A good edit, by places counted from its start.
-pub struct Edit {
-    // 0 delete, 1 update, 2 update with peeled id.
-    pub kind: u8,
-    // Where the name stands, and its length. The ids stand behind it.
-    pub from: usize,
-    pub name_len: usize,
-    // The bytes that the edit takes.
-    pub size: usize,
-}
-
 // Why an edit can't be taken.
 pub enum EditFault {
     // The kind is unknown, the length can't be read, or the edit is cut short.
@@ -27,7 +16,8 @@ pub enum EditFault {
 }
 
 pub enum EditReading {
-    Good(Edit),
+    // It takes so many bytes; `parts` has its name and its ids.
+    Good(usize),
     Bad(EditFault),
 }
 
@@ -45,19 +35,12 @@ pub fn read(t: &[u8; 256], n: usize, s: &[u8]) -> EditReading
     let Length::Of { value, next } = length::length_at(s, 1) else {
         return EditReading::Bad(EditFault::Malformed);
     };
-    behind_length(t, s, kind, next, value, wide(kind) * (n / 2))
+    behind_length(t, s, next, value, wide(kind) * (n / 2))
 }
 
 // The edit whose name has this length and stands at this place, with ids of so many bytes behind it.
-fn behind_length(
-    t: &[u8; 256],
-    s: &[u8],
-    kind: u8,
-    from: usize,
-    len: usize,
-    ids: usize,
-) -> EditReading
-    ensures { λ r. ⌜ r ≡ namedEdit (classesOf (now (t .entry))) (now (s .entry)) kind from len ids ⌝ }
+fn behind_length(t: &[u8; 256], s: &[u8], from: usize, len: usize, ids: usize) -> EditReading
+    ensures { λ r. ⌜ r ≡ namedEdit (classesOf (now (t .entry))) (now (s .entry)) from len ids ⌝ }
 {
     if len == 0 {
         return EditReading::Bad(EditFault::BadName);
@@ -72,12 +55,7 @@ fn behind_length(
         return EditReading::Bad(EditFault::BadName);
     }
     let size = from + len + ids;
-    EditReading::Good(Edit {
-        kind,
-        from,
-        name_len: len,
-        size,
-    })
+    EditReading::Good(size)
 }
 
 // Whether a name and ids of these lengths stand there in full.

@@ -8,11 +8,10 @@ use native.Mathlib.Omega.{arith}
 use lib.ListN.{getD, length, drop, set, length-append, length-drop}
 use lib.Seq.{drop-cons, set-at}
 use Rattle.class.specs.Class.{Classes}
-use Rattle.edit.specs.declared.Edit.{Edit}
 use Rattle.edit.specs.declared.EditFault.{EditFault}
 use Rattle.edit.specs.declared.EditReading.the-variants.{Good, Bad}
 use Rattle.edit.specs.Edit.{editOf}
-use Rattle.edits.specs.List.{Listed, all, bad, onto, editsFrom, editsOf, isWhole, placesOf}
+use Rattle.edits.specs.List.{Listed, all, bad, withPlace, editsFrom, editsOf, isWhole, placesOf}
 use Rattle.edits.proofs.Lists.{from-end, from-many, from-bad, from-good}
 
 module _ (byte : Classes) (n : ℕ) (list : List ℕ) where
@@ -56,21 +55,21 @@ module _ (byte : Classes) (n : ℕ) (list : List ℕ) where
     pub no-bad : {f : EditFault} → editOf byte n (drop place list) ≡ Bad f → ⊥
     no-bad {f} e = let z : _≡_ {A = ℕ} 0 1 = cc (from-bad byte n list place inside (turn .0) {f = f} e, turn .1) in omega arith
 
-    module _ (c : Edit) (e : editOf byte n (drop place list) ≡ Good c) (room : length places ≤ length index₀) where
+    module _ (size : ℕ) (e : editOf byte n (drop place list) ≡ Good size) (room : length places ≤ length index₀) where
       Rest : Type 0
-      Rest = (l : List ℕ) × (editsFrom byte n list (turn .0) (place + c .size) ≡ all l) × (f .left ≡ place ∷ l)
+      Rest = (l : List ℕ) × (editsFrom byte n list (turn .0) (place + size) ≡ all l) × (f .left ≡ place ∷ l)
 
       behind : Rest
       unfolding Rest
-      behind = go (editsFrom byte n list (turn .0) (place + c .size)) refl
+      behind = go (editsFrom byte n list (turn .0) (place + size)) refl
         where
-          same : onto place (editsFrom byte n list (turn .0) (place + c .size)) ≡ all (f .left)
-          same = sym (from-good byte n list place inside (turn .0) c e) ∙ turn .1
+          same : withPlace place (editsFrom byte n list (turn .0) (place + size)) ≡ all (f .left)
+          same = sym (from-good byte n list place inside (turn .0) size e) ∙ turn .1
 
-          go : (x : Listed) → editsFrom byte n list (turn .0) (place + c .size) ≡ x
-              → (l : List ℕ) × (editsFrom byte n list (turn .0) (place + c .size) ≡ all l) × (f .left ≡ place ∷ l)
-          go (all l) q = (l, q, cc (same, ap (onto place) q))
-          go (bad why) q = absurd (let z : _≡_ {A = ℕ} 0 1 = cc (same, ap (onto place) q) in omega arith)
+          go : (x : Listed) → editsFrom byte n list (turn .0) (place + size) ≡ x
+              → (l : List ℕ) × (editsFrom byte n list (turn .0) (place + size) ≡ all l) × (f .left ≡ place ∷ l)
+          go (all l) q = (l, q, cc (same, ap (withPlace place) q))
+          go (bad why) q = absurd (let z : _≡_ {A = ℕ} 0 1 = cc (same, ap (withPlace place) q) in omega arith)
 
       pub room-left : i < length index₀
       unfolding Rest
@@ -80,7 +79,7 @@ module _ (byte : Classes) (n : ℕ) (list : List ℕ) where
       pub room-here : i < length index
       room-here = omega (arith, room-left, ap length (f .now), length-append (f .done) (drop i index₀), length-drop i index₀, f .count)
 
-      pub filling-next : Filling index₀ (set index i place) (place + c .size) (i + 1)
+      pub filling-next : Filling index₀ (set index i place) (place + size) (i + 1)
       unfolding Rest
       filling-next =
           record {

@@ -6,12 +6,11 @@ use native.Mathlib.Omega.{arith}
 use lib.ListN.{length, drop}
 use borrow.Author.Tests.{lt-ltb, le-ltb}
 use Rattle.class.specs.Class.{Classes}
-use Rattle.edit.specs.declared.Edit.{Edit}
 use Rattle.edit.specs.declared.EditFault.{EditFault}
 use Rattle.edit.specs.declared.EditReading.the-variants.{Good, Bad}
 use Rattle.edit.specs.Edit.{editOf}
 use Rattle.edits.specs.declared.list.ListFault.the-variants.{BadEdit, TooMany}
-use Rattle.edits.specs.List.{Listed, all, bad, onto, editsFrom, counted}
+use Rattle.edits.specs.List.{Listed, all, bad, withPlace, editsFrom, counted}
 
 -- ---- turns
 
@@ -31,13 +30,13 @@ module _ (byte : Classes) (n : ℕ) (list : List ℕ) (place : ℕ) where
       unfolding editsFrom
       from-bad e = rw (lt-ltb place (length list) inside, e)
 
-      pub from-good : (c : Edit) → editOf byte n (drop place list) ≡ Good c
-          → editsFrom byte n list (suc turns) place ≡ onto place (editsFrom byte n list turns (place + c .size))
+      pub from-good : (size : ℕ) → editOf byte n (drop place list) ≡ Good size
+          → editsFrom byte n list (suc turns) place ≡ withPlace place (editsFrom byte n list turns (place + size))
       unfolding editsFrom
-      from-good c e = rw (lt-ltb place (length list) inside, e)
+      from-good size e = rw (lt-ltb place (length list) inside, e)
 
 -- ---- counting
 
-pub counted-onto : (k place : ℕ) (l : Listed) → counted k (onto place l) ≡ counted (k + 1) l
+pub counted-onto : (k place : ℕ) (l : Listed) → counted k (withPlace place l) ≡ counted (k + 1) l
 counted-onto k place (all l) = let z : k + suc (length l) ≡ k + 1 + length l = omega arith in rw z
 counted-onto k place (bad why) = refl

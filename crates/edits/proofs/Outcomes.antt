@@ -9,6 +9,7 @@ use lib.ListN.{length, drop}
 use borrow.Author.Tests.{lt-ltb, le-ltb}
 use Rattle.class.specs.Class.{Classes}
 use Rattle.parse.specs.Limit.{overLimit}
+use Rattle.sort.specs.Sorted.{sorted}
 use Rattle.edits.specs.declared.list.ListFault.{ListFault}
 use Rattle.edits.specs.declared.list.Edits.the-variants as edits
 use Rattle.edits.specs.declared.list.Prepared.{Prepared}
@@ -45,8 +46,8 @@ module _ (byte : Classes) (n : ℕ) (list index : List ℕ) where
 
   module _ (fine : overLimit (length list) ≡ false) where
     pub comes-bad : (why : ListFault) → counted 0 (editsOf byte n list) ≡ edits.Bad why → Comes (BadList why) index
-    unfolding preparedOf indexAfter
-    comes-bad why e = let l = counted-bad (editsOf byte n list) why e in (rw (fine, l), rw (fine, l))
+    unfolding preparedOf indexAfter sorted
+    comes-bad why e = let l = counted-bad (editsOf byte n list) why e in (rw (fine, l), rw (fine, l, le-ltb (length index) 0 (omega arith)))
 
     module _ (k : ℕ) (number-is : counted 0 (editsOf byte n list) ≡ edits.Count k) where
       abbrev places : List ℕ

@@ -1,5 +1,5 @@
 -- A whole edit list.
-use mathlib.Core.Bool.{Bool, true, false}
+use mathlib.Core.Bool.{Bool, true, false, _||_}
 use mathlib.Core.List.{List, [], _∷_, _++_}
 use Prim.Native.Nat.{ℕ, zero, suc, _+_}
 use lib.Dec.{ltb}
@@ -14,7 +14,6 @@ use Rattle.places.specs.Name.{standingName}
 use Rattle.places.specs.Order.{comesFirst}
 use Rattle.sort.specs.Sorted.{sorted}
 use Rattle.sort.specs.Twin.{firstTwin}
-use Rattle.edit.specs.declared.Edit.{Edit}
 use Rattle.edit.specs.declared.EditReading.{EditReading}
 use Rattle.edit.specs.declared.EditReading.the-variants as reading
 use Rattle.edits.specs.declared.list.ListFault.{ListFault}
@@ -31,12 +30,12 @@ pub data Listed : Type 0 where
   all : (places : List ℕ) → Listed
   bad : (why : ListFault) → Listed
 
-abbrev pub onto : ℕ → Listed → Listed
-onto place (all l) = all (place ∷ l)
-onto place (bad why) = bad why
+abbrev pub withPlace : ℕ → Listed → Listed
+withPlace place (all l) = all (place ∷ l)
+withPlace place (bad why) = bad why
 
-abbrev pub listedBy : EditReading → ℕ → (Edit → Listed) → Listed
-listedBy (reading.Good c) place next = next c
+abbrev pub listedBy : EditReading → ℕ → (ℕ → Listed) → Listed
+listedBy (reading.Good size) place next = next size
 listedBy (reading.Bad f) place next = bad (BadEdit place f)
 
 -- "edits one after another"; "First fault in the list wins; 9 comes where that edit would begin": after so many turns no edit may begin
@@ -45,7 +44,7 @@ module _ (byte : Classes) (n : ℕ) (list : List ℕ) where
   editsFrom zero place = if (ltb place (length list)) (bad (TooMany place)) (all [])
   editsFrom (suc turns) place =
       if (ltb place (length list))
-      (listedBy (editOf byte n (drop place list)) place (λ c. onto place (editsFrom turns (place + c .size))))
+      (listedBy (editOf byte n (drop place list)) place (λ size. withPlace place (editsFrom turns (place + size))))
       (all [])
 
   -- "a 4,097th edit begins" is refused
@@ -65,7 +64,7 @@ abbrev pub placesOf : Listed → List ℕ
 placesOf (all l) = l
 placesOf (bad why) = []
 
--- ---- the index: "its first entries hold the edits' places in the list by name order, equal names in list order"
+-- ---- the index: "the index's first entries hold the edits' places in the list by name order, equal names in list order"
 
 abbrev pub inOrder : List ℕ → List ℕ → List ℕ
 inOrder list places = sorted (comesFirst layout.Edit list) places
@@ -85,13 +84,11 @@ preparedBy list room (bad why) = BadList why
 unfoldable pub preparedOf : Classes → ℕ → List ℕ → ℕ → Prepared
 preparedOf byte n list room = if (overLimit (length list)) TooLarge (preparedBy list room (editsOf byte n list))
 
--- "before that it is unchanged; entries behind are never touched"
-abbrev pub indexBy : List ℕ → List ℕ → Listed → List ℕ
-indexBy list index (all l) = if (ltb (length index) (length l)) index (inOrder list l ++ drop (length l) index)
-indexBy list index (bad why) = index
-
+-- "before that it is unchanged; entries behind are never touched": a list that has a fault has no places, so nothing is put in front
 unfoldable pub indexAfter : Classes → ℕ → List ℕ → List ℕ → List ℕ
-indexAfter byte n list index = if (overLimit (length list)) index (indexBy list index (editsOf byte n list))
+indexAfter byte n list index =
+    let places = placesOf (editsOf byte n list) in
+    if (overLimit (length list) || ltb (length index) (length places)) index (inOrder list places ++ drop (length places) index)
 
 -- the paper's number for each fault: an edit's, or "a 4,097th edit begins"
 abbrev pub listFaultNumber : ListFault → ℕ

@@ -25,7 +25,7 @@ pub enum Edits {
     Bad(ListFault),
 }
 
-// What comes of a list and an index: the index holds all edits in name order, each of another name, or why that can't be.
+// What comes of a list and an index: the index holds all edits in name order, no two of one name; or why that can't be.
 pub enum Prepared {
     // So many edits, all of different names.
     Ready(usize),
@@ -48,8 +48,8 @@ pub(crate) fn count(t: &[u8; 256], n: usize, list: &[u8]) -> Edits
         }
         let rest = &list[place..];
         match edit::read(t, n, rest) {
-            EditReading::Good(c) => {
-                place += c.size;
+            EditReading::Good(size) => {
+                place += size;
                 count += 1;
             }
             EditReading::Bad(fault) => {
@@ -113,9 +113,9 @@ fn fill(t: &[u8; 256], n: usize, list: &[u8], index: &mut [u32])
     while place < list.len() {
         let rest = &list[place..];
         match edit::read(t, n, rest) {
-            EditReading::Good(c) => {
+            EditReading::Good(size) => {
                 index[i] = place as u32;
-                place += c.size;
+                place += size;
                 i += 1;
             }
             EditReading::Bad(_) => {

@@ -15,7 +15,7 @@ use Rattle.name.proofs.Laws.{valid-some}
 use Rattle.decode.specs.declared.reference.Record.{Record}
 use Rattle.decode.specs.declared.reference.Reading.{Reading}
 use Rattle.decode.specs.declared.reference.Reading.the-variants.{Good, Bad}
-use Rattle.probe.specs.declared.shape.Shape.the-variants.{Name}
+use Rattle.probe.specs.declared.shape.Shape.the-variants.{NameLen}
 use Rattle.decode.specs.Record.{recordOf}
 use Rattle.probe.specs.Shape.{shapeOf}
 use Rattle.decode.proofs.Records.{nameLen, afterName, Head, View, is-bad, plain, peeled, view}
@@ -31,7 +31,7 @@ module _ (n : ℕ) (t : List ℕ) where
   name-some h =
       omega (arith, valid-some paper (take (nameLen paper n t) (drop (suc n) t)) (h .name), length-take (nameLen paper n t) (drop (suc n) t))
 
-  head-shape : Head paper n t → shapeOf paper n t ≡ Name (nameLen paper n t)
+  head-shape : Head paper n t → shapeOf paper n t ≡ NameLen (nameLen paper n t)
   head-shape h = go (shape-view paper n t)
     where
       len : shapeLen paper n t ≡ nameLen paper n t
@@ -42,17 +42,17 @@ module _ (n : ℕ) (t : List ℕ) where
           let z : textEnd paper t (n + 1) ≡ suc n + nameLen paper n t = omega (arith, len) in
           ap (λ (k : ℕ). drop k t) z ∙ sym (drop-drop (nameLen paper n t) (suc n) t)
 
-      go : ShapeView paper n t → shapeOf paper n t ≡ Name (nameLen paper n t)
-      go (named l s e) = e ∙ ap Name len
+      go : ShapeView paper n t → shapeOf paper n t ≡ NameLen (nameLen paper n t)
+      go (named l s e) = e ∙ ap NameLen len
       go (shapeless lacks e) = absurd (lacks (record { space = h .space; some = omega (arith, len, name-some h); end = rw behind (h .end) }))
 
-  good-shape : (r : Record) → recordOf paper n t ≡ Good r → shapeOf paper n t ≡ Name (r .«name_len»)
+  good-shape : (r : Record) → recordOf paper n t ≡ Good r → shapeOf paper n t ≡ NameLen (r .«name_len»)
   good-shape r e = go (view paper n t)
     where
-      by : Head paper n t → nameLen paper n t ≡ r .«name_len» → shapeOf paper n t ≡ Name (r .«name_len»)
-      by h z = head-shape h ∙ ap Name z
+      by : Head paper n t → nameLen paper n t ≡ r .«name_len» → shapeOf paper n t ≡ NameLen (r .«name_len»)
+      by h z = head-shape h ∙ ap NameLen z
 
-      go : View paper n t → shapeOf paper n t ≡ Name (r .«name_len»)
+      go : View paper n t → shapeOf paper n t ≡ NameLen (r .«name_len»)
       go (is-bad f w q) = absurd (let z : _≡_ {A = ℕ} 0 1 = cc in omega arith)
       go (plain h c q) = by h (cc)
       go (peeled h c p q) = by h (cc)

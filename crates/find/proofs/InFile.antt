@@ -1,21 +1,18 @@
 -- Found exactly, and listed exactly, behind the header of a file that passes the check.
-use mathlib.Core.Path.{_≡_, sym, ap, _∙_}
-use mathlib.Core.Bool.{true}
+use mathlib.Core.Path.{_≡_}
 use mathlib.Core.List.{List}
-use Prim.Native.Nat.{ℕ, _<_}
+use Prim.Native.Nat.{ℕ}
 use lib.ListN.{drop}
 use Rattle.class.specs.Class.{paper}
-use Rattle.name.specs.Name.{validName}
 use Rattle.header.specs.declared.Header.{Header}
 use Rattle.header.specs.declared.Opened.the-variants as opened
 use Rattle.header.specs.Header.{headerOf}
 use Rattle.checks.specs.declared.Verdict.the-variants as verdict
 use Rattle.iter.specs.Items.{items}
 use Rattle.checks.specs.Check.{checkOf}
-use Rattle.checks.specs.CheckMeans.{Body}
 use Rattle.checks.specs.Passes.{Passes}
 use Rattle.checks.proofs.CheckMeans.{check-means}
-use Rattle.find.specs.Present.{FoundExactly, ListsExactly, InChecked}
+use Rattle.find.specs.Present.{FoundInChecked, ListsInChecked}
 use Rattle.find.proofs.Found.{found-exactly}
 use Rattle.find.proofs.Lists.{lists-exactly}
 
@@ -26,10 +23,10 @@ body-passes n file count h e o =
     let same : b .header ≡ h = cc (b .reads) in
     rw same at (b .holds)
 
-pub found-in-file : (n : ℕ) → 0 < n → (file name : List ℕ) → validName paper name ≡ true → InChecked n file (λ body. FoundExactly n body name)
+pub found-in-file : FoundInChecked
 found-in-file n some file name valid =
     record { behind = λ count h e o. found-exactly n some (drop (h .body) file) count (body-passes n file count h e o) name valid }
 
-pub lists-in-file : (n : ℕ) → 0 < n → (file prefix : List ℕ) → InChecked n file (λ body. ListsExactly n body prefix)
+pub lists-in-file : ListsInChecked
 lists-in-file n some file prefix =
     record { behind = λ count h e o. lists-exactly n some (drop (h .body) file) count (body-passes n file count h e o) prefix }

@@ -2,7 +2,7 @@
 use mathlib.Core.Path.{_≡_, refl, sym, ap, _∙_}
 use mathlib.Core.Bool.{Bool, true, false, and-eq-true-iff}
 use mathlib.Core.List.{List, [], _∷_, _++_, append-assoc, append-nil}
-use Prim.Native.Nat.{ℕ, suc, _+_, _<_}
+use Prim.Native.Nat.{ℕ, _+_, _<_}
 use native.Mathlib.Nat.{add-zero}
 use native.Mathlib.Omega.{arith}
 use lib.Dec.{ltb}
@@ -25,7 +25,7 @@ use Rattle.start.specs.Start.{firstItem, startOf}
 use Rattle.iter.proofs.Each.{each}
 use Rattle.iter.proofs.Items.{items-step, tile}
 use Rattle.handed.specs.Hands.{unlessOther, upToOther, allOf}
-use Rattle.handed.proofs.Runs.{hands-out}
+use Rattle.handed.proofs.Iterations.{hands-out}
 use Rattle.find.specs.declared.prefix_start.PrefixStart.the-variants.{From}
 use Rattle.search.specs.Search.{searchOf}
 use Rattle.find.specs.PrefixStart.{placeOf, prefixStartFrom, prefixStartOf}

@@ -1,9 +1,8 @@
 -- The place that the search tells lies inside the body.
-use mathlib.Core.Path.{_≡_, ap}
+use mathlib.Core.Path.{_≡_}
 use mathlib.Core.Bool.{false}
 use mathlib.Core.List.{List}
 use Prim.Native.Nat.{ℕ, _≤_}
-use native.Mathlib.Omega.{arith}
 use lib.ListN.{length}
 use Rattle.class.specs.Class.{Classes}
 use Rattle.probe.proofs.Starts.{start-inside}

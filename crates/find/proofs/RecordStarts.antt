@@ -18,7 +18,7 @@ use Rattle.probe.specs.RecordStart.{lineStart, recordStart}
 use Rattle.probe.proofs.Starts.{line-stop, line-back, start-here, start-before, start-at-end}
 use Rattle.iter.specs.Items.{Item, sizeOf, items}
 use Rattle.checks.specs.Passes.{isGood, allGood}
-use Rattle.iter.specs.Stands.{Stands, Each}
+use Rattle.iter.specs.Stands.{Stands, EachItem}
 use Rattle.iter.proofs.Items.{size-le}
 use Rattle.iter.proofs.Each.{each}
 use Rattle.find.proofs.ItemAt.{lies, stands-good}
@@ -57,7 +57,7 @@ module _ (n : ℕ) (pos : 0 < n) (s : List ℕ) {place : ℕ} {it : Item} (x : S
   abbrev t : List ℕ
   t = drop place s
 
-  here : Each n s place it
+  here : EachItem n s place it
   here = each n s place it x
 
   size : length (it .bytes) ≡ sizeOf paper n t

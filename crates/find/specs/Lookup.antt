@@ -1,5 +1,4 @@
 -- Lookup of one full name.
-use mathlib.Core.Bool.{Bool, true, false, _||_}
 use mathlib.Core.List.{List}
 use Prim.Native.Nat.{ℕ}
 use lib.ListN.{length, drop}
@@ -7,9 +6,7 @@ use Rattle.parse.specs.Choice.{if}
 use Rattle.class.specs.Class.{Classes, paper}
 use Rattle.parse.specs.Limit.{admission, admit}
 use Rattle.name.specs.Name.{validName}
-use Rattle.decode.specs.declared.reference.Reading.{Reading}
-use Rattle.decode.specs.declared.reference.Reading.the-variants.{Good, Bad}
-use Rattle.decode.specs.Record.{recordOf, faultNumber}
+use Rattle.decode.specs.Record.{recordOf, decoded, faultNumber}
 use Rattle.search.specs.declared.Halved.{Halved}
 use Rattle.search.specs.declared.Halved.the-variants.{Hit, Miss}
 use Rattle.find.specs.declared.lookup.Lookup.{Lookup}
@@ -18,14 +15,9 @@ use Rattle.find.specs.declared.lookup.LookupAnswer.{LookupAnswer}
 use Rattle.find.specs.declared.lookup.LookupAnswer.the-variants.{Done, UnknownKind, TooLarge}
 use Rattle.search.specs.Search.{searchOf}
 
--- "On a hit the record is read in full: 0, or 4 if bad; earlier failed probes then don't count."
-abbrev pub readAt : ℕ → Reading → Lookup
-readAt place (Good r) = Charted place r
-readAt place (Bad f) = BadRecord place f
-
--- "On a miss: 4 if a probe failed, else 5."
+-- "On a hit the record is read in full: 0, or 4 if bad; earlier failed probes then don't count. On a miss: 4 if a probe failed, else 5."
 abbrev pub lookupBy : Classes → ℕ → List ℕ → Halved → Lookup
-lookupBy byte n s (Hit place) = readAt place (recordOf byte n (drop place s))
+lookupBy byte n s (Hit place) = decoded (recordOf byte n (drop place s)) (λ r. Charted place r) (λ f. BadRecord place f)
 lookupBy byte n s (Miss place failed) = if failed Unsure Absent
 
 -- "Lookup: 1, 17, 3, search."

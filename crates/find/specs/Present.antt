@@ -1,12 +1,13 @@
--- What lookup and prefix iteration mean.
+-- What lookup and prefix iteration mean, of the definitions (demands/specs/Found.antt says it of what callers lend and get); and how many probes a search takes.
 use mathlib.Core.Path.{_≡_}
-use mathlib.Core.Bool.{false}
+use mathlib.Core.Bool.{true, false}
 use mathlib.Core.List.{List, [], _∷_}
 use mathlib.Core.Logic.{_⊎_}
 use Prim.Native.Nat.{ℕ, _-_, _^_, _≤_, _<_}
 use lib.ListN.{length, drop}
 use Rattle.parse.specs.Choice.{if}
 use Rattle.class.specs.Class.{Classes, paper}
+use Rattle.name.specs.Name.{validName}
 use Rattle.compare.specs.Prefix.{begins}
 use Rattle.header.specs.declared.Header.{Header}
 use Rattle.header.specs.declared.Opened.the-variants as opened
@@ -16,7 +17,7 @@ use Rattle.checks.specs.declared.Verdict.the-variants as verdict
 use Rattle.iter.specs.Items.{Item, items, nameOf}
 use Rattle.checks.specs.Check.{checkOf}
 use Rattle.iter.specs.Stands.{Named}
-use Rattle.handed.specs.Run.{runOf}
+use Rattle.handed.specs.Iteration.{iterate}
 use Rattle.handed.specs.Hands.{allOf}
 use Rattle.find.specs.declared.lookup.Lookup.the-variants as lookup
 use Rattle.find.specs.declared.prefix_start.PrefixStart.the-variants.{From}
@@ -40,6 +41,9 @@ pub record FoundExactly (n : ℕ) (s name : List ℕ) : Type 0 where
 pub record InChecked (n : ℕ) (file : List ℕ) (P : List ℕ → Type 0) : Type 0 where
   pub behind : (count : ℕ) (h : Header) → checkOf paper n file ≡ verdict.Clean count → headerOf paper file ≡ opened.Header h → P (drop (h .body) file)
 
+abbrev pub FoundInChecked : Type 0
+FoundInChecked = (n : ℕ) → 0 < n → (file name : List ℕ) → validName paper name ≡ true → InChecked n file (λ body. FoundExactly n body name)
+
 -- ---- "In a checked file it lists exactly the records with the prefix, in order."
 
 abbrev pub withPrefix : ℕ → List ℕ → List Item → List Item
@@ -51,7 +55,10 @@ pub record ListsExactly (n : ℕ) (s prefix : List ℕ) : Type 0 where
   pub place : ℕ
   pub start : prefixStartOf paper n s prefix ≡ From place 1
   pub all : (turns : ℕ) → length s - place < turns
-      → runOf paper n prefix s turns place 1 ≡ allOf n (length s) place 1 (withPrefix n prefix (items paper n s))
+      → iterate paper n prefix s turns place 1 ≡ allOf n (length s) place 1 (withPrefix n prefix (items paper n s))
+
+abbrev pub ListsInChecked : Type 0
+ListsInChecked = (n : ℕ) → 0 < n → (file prefix : List ℕ) → InChecked n file (λ body. ListsExactly n body prefix)
 
 -- ---- probes: no more than the length has binary digits, that is no more than j where it is below 2 to the j
 

@@ -15,7 +15,7 @@ pub enum Lookup {
     BadRecord { place: usize, fault: Fault },
     // No record was hit, but a probe met a shape that fails: nothing is known.
     Unsure,
-    // No record was hit, and every probe read a name.
+    // No record was hit, and every probe read a name. Only in a checked body does that mean that no record has the name.
     Absent,
     // The wanted name breaks the name rules.
     BadName,

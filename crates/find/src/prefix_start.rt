@@ -11,7 +11,7 @@ use start::Start;
 pub enum PrefixStart {
     // The place that the first step is taken from, and its item number.
     From { place: usize, item: u64 },
-    // The bytes from the start on begin with #, and with no header: where they begin, and the length of that text.
+    // The bytes from the start on begin with # but with no header that can be read: where they begin, and the length of that text.
     BadHeader { place: usize, text: usize },
 }
 

@@ -2,12 +2,12 @@
 use mathlib.Core.Path.{_≡_, refl, sym, ap, _∙_}
 use mathlib.Core.Logic.{_⊎_, inl, inr}
 use mathlib.Core.List.{List, [], _∷_}
-use Prim.Native.Nat.{ℕ, zero, suc, _+_, _-_, _≤_, _<_}
+use Prim.Native.Nat.{ℕ, suc, _+_, _-_, _<_}
 use native.Mathlib.Numerals.{add-one}
 use native.Mathlib.Omega.{arith}
 use lib.ListN.{length, take, drop, length-drop}
 use lib.Seq.{drop-drop, take-take, length-take-le}
-use Rattle.class.specs.Class.{Classes, paper}
+use Rattle.class.specs.Class.{paper}
 use Rattle.parse.specs.declared.line.Text.the-variants.{Ended}
 use Rattle.parse.specs.Line.{eol, lineLen, textAt}
 use Rattle.parse.proofs.Fronts.{eol-line}
@@ -18,8 +18,7 @@ use Rattle.header.specs.declared.Opened.{Opened}
 use Rattle.header.specs.declared.Opened.the-variants as opened
 use Rattle.header.specs.Header.{tokens, plainHeader, headerOf}
 use Rattle.header.proofs.Headers.{all-noted-body, HeaderView, none, unreadable, some, header-view}
-use Rattle.decode.specs.declared.reference.Reading.{Reading}
-use Rattle.decode.specs.declared.reference.Reading.the-variants.{Good, Bad}
+use Rattle.decode.specs.Entry.{entryOf}
 use Rattle.decode.specs.Record.{recordOf}
 use Rattle.decode.proofs.Records.{View, is-bad, plain, peeled, view, headLen, peelLen, nameLen, Fits, fits}
 use Rattle.decode.proofs.Locality.{head-line, peel-line}
@@ -30,10 +29,10 @@ use Rattle.iter.specs.Step.{more}
 use Rattle.iter.proofs.Covers.{front-at}
 use Rattle.iter.proofs.Each.{line-behind, item-behind}
 use Rattle.iter.proofs.Items.{items-step, some-item, size-le}
-use Rattle.handed.specs.Handed.{Given, handedBy, partsOf, handed}
-use Rattle.handed.specs.Run.{read, readOf, outOf, Read}
-use Rattle.handed.specs.Lines.{LineOf, InLine, InLines, Each, ReadFromLines}
-use Rattle.handed.proofs.Runs.{parts-inside, reads-file}
+use Rattle.handed.specs.Handed.{good, handedBy, handed}
+use Rattle.handed.specs.Iteration.{readOf}
+use Rattle.handed.specs.Lines.{InLine, InLines, Each, ReadFromLines}
+use Rattle.handed.proofs.Iterations.{reads-file}
 
 -- ---- a body begins where a line begins: the header ends in a line feed
 
@@ -73,11 +72,11 @@ module _ (n : ℕ) (s : List ℕ) (place : ℕ) (inside : place < length s) (sta
 
   -- a record of two lines, of k and m bytes: the peeled id stands in the second one, behind its first byte
   two-lines : (k m name : ℕ) → k ≡ lineLen t → m ≡ lineLen (drop k t) → Fits paper n t (record { «name_len» = name; peeled = suc k; size = k + m })
-      → InLines s (partsOf n (take (k + m) t) (record { «name_len» = name; peeled = suc k; size = k + m }))
+      → InLines s (good (entryOf n (take (k + m) t) (record { «name_len» = name; peeled = suc k; size = k + m })))
   two-lines k m name l q f = go (f .peeled)
     where
       go : (suc k ≡ 0) ⊎ ((suc n + name < suc k) × (suc k + n < k + m))
-          → InLines s (partsOf n (take (k + m) t) (record { «name_len» = name; peeled = suc k; size = k + m }))
+          → InLines s (good (entryOf n (take (k + m) t) (record { «name_len» = name; peeled = suc k; size = k + m })))
       go (inl z) = absurd (omega arith)
       go (inr (a, b)) =
           let d : drop k t ≡ drop (place + k) s = drop-drop k place s in
@@ -104,7 +103,7 @@ module _ (n : ℕ) (s : List ℕ) (place : ℕ) (inside : place < length s) (sta
     where
       go : View paper n t → InLines s (handedBy n item (take (sizeOf paper n t) t) (recordOf paper n t))
       go (is-bad f w e) = rw e (in-first _ 0 (length first - 1) refl)
-      go (plain h c e) = rw (e, head-line n t h) (in-first _ 0 n refl, in-first _ (n + 1) (nameLen paper n t) refl)
+      go (plain h c e) = rw (e, head-line n t h) (in-first _ 0 n refl, in-first _ (n + 1) (nameLen paper n t) refl, tt)
       go (peeled h c p e) = rw e (two-lines (headLen paper n t) (peelLen paper n (drop (headLen paper n t) t)) (nameLen paper n t) (head-line n t h)
           (peel-line n (drop (headLen paper n t) t) (front-at 94 (omega arith) (headLen paper n t) t c) p) (fits paper n t _ e))
 

@@ -1,16 +1,15 @@
--- What a step hands out: a record by its id, its name and its peeled id, an error by its item number and its text; each with its place.
+-- What a step hands out: a record by what it says, an error by its item number and its text; each with its place.
 use mathlib.Core.List.{List, [], _∷_}
-use Prim.Native.Nat.{ℕ, zero, suc, _+_, _-_}
-use lib.ListN.{length, take, drop}
-use Rattle.decode.specs.declared.reference.Record.{Record}
+use Prim.Native.Nat.{ℕ, _+_, _-_}
+use lib.ListN.{length, take}
 use Rattle.decode.specs.declared.reference.Reading.{Reading}
 use Rattle.decode.specs.declared.reference.Reading.the-variants.{Good, Bad}
+use Rattle.decode.specs.Entry.{Entry, entryOf}
 use Rattle.iter.specs.Items.{Item}
 use Rattle.iter.specs.Step.{more}
 
 pub data Handed : Type 0 where
-  good : (id name : List ℕ) → Handed
-  peeled : (id name peeledId : List ℕ) → Handed
+  good : Entry → Handed
   error : (item : ℕ) (text : List ℕ) → Handed
 
 -- something that was handed out, the place that the step was taken from, and the next place that it told
@@ -22,21 +21,11 @@ pub record Given : Type 0 where
 abbrev pub given : ℕ → ℕ → Handed → Given
 given place next what = record { place = place; next = next; what = what }
 
--- ---- a record's parts, where its bytes begin: the id stands first, the name behind it and one byte. Where there is a peeled id, it
--- stands at a place that is not 0
-
-abbrev pub partsBy : ℕ → List ℕ → List ℕ → ℕ → Handed
-partsBy n bytes name zero = good (take n bytes) name
-partsBy n bytes name (suc at) = peeled (take n bytes) name (take n (drop (suc at) bytes))
-
-abbrev pub partsOf : ℕ → List ℕ → Record → Handed
-partsOf n bytes r = partsBy n bytes (take (r .«name_len») (drop (n + 1) bytes)) (r .peeled)
-
 -- ---- the items of a body, handed out one after another: the first stands at a place and has an item number
 
 -- "It gives the number and the covered bytes less the last one"
 abbrev pub handedBy : ℕ → ℕ → List ℕ → Reading → Handed
-handedBy n item bytes (Good r) = partsOf n bytes r
+handedBy n item bytes (Good r) = good (entryOf n bytes r)
 handedBy n item bytes (Bad f) = error item (take (length bytes - 1) bytes)
 
 abbrev pub handedAt : ℕ → ℕ → ℕ → Item → Given

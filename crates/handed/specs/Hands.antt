@@ -15,7 +15,7 @@ use Rattle.start.specs.Start.{firstItem}
 use Rattle.iter.specs.Items.{Item, items, nameOf}
 use Rattle.iter.specs.Step.{more}
 use Rattle.handed.specs.Handed.{handed}
-use Rattle.handed.specs.Run.{Run, ended, runOf, read, readOf}
+use Rattle.handed.specs.Iteration.{Iteration, saidEnd, iterate, read, readOf}
 
 -- "a good record whose name doesn't begin with it ends the iteration for good; errors are handed out whatever the prefix"
 abbrev pub unlessOther : Reading → Bool → List Item → List Item
@@ -33,18 +33,18 @@ raised item [] = item
 raised item (i ∷ l) = raised (more item) l
 
 -- some items handed out, then the end: "Every end, a prefix's too, gives the length as next place and the number as it came."
-abbrev pub allOf : ℕ → ℕ → ℕ → ℕ → List Item → Run
-allOf n len place item l = record { out = handed n place item l; stop = ended len (raised item l) }
+abbrev pub allOf : ℕ → ℕ → ℕ → ℕ → List Item → Iteration
+allOf n len place item l = record { out = handed n place item l; stop = saidEnd len (raised item l) }
 
 -- more turns than there are bytes from the place on are enough: each item takes one byte at least, and the end takes a turn
 pub record HandsOut (byte : Classes) (n : ℕ) (prefix s : List ℕ) (place item : ℕ) : Type 0 where
   pub all : (turns : ℕ) → length s - place < turns
-      → runOf byte n prefix s turns place item ≡ allOf n (length s) place item (upToOther n prefix (items byte n (drop place s)))
+      → iterate byte n prefix s turns place item ≡ allOf n (length s) place item (upToOther n prefix (items byte n (drop place s)))
 
 -- no prefix is the empty prefix: all items come out
 pub record HandsOutAll (byte : Classes) (n : ℕ) (s : List ℕ) (place item : ℕ) : Type 0 where
   pub all : (turns : ℕ) → length s - place < turns
-      → runOf byte n [] s turns place item ≡ allOf n (length s) place item (items byte n (drop place s))
+      → iterate byte n [] s turns place item ≡ allOf n (length s) place item (items byte n (drop place s))
 
 -- a file whose header can be read: all items behind the header
 pub record ReadsFile (byte : Classes) (n : ℕ) (file : List ℕ) : Type 0 where

@@ -1,4 +1,4 @@
 pub mod Handed
-pub mod Run
+pub mod Iteration
 pub mod Lines
 pub mod Hands

@@ -1,1 +1,1 @@
-// What a caller is handed who steps until the end: theorems about `start` and `iter`, and no code. See specs/Run.antt.
+// What a caller who steps until the end is handed: theorems about `start` and `iter`, and no code. See specs/Iteration.antt.

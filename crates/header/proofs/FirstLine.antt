@@ -1,14 +1,13 @@
 -- The first line's length, by where its LF stands.
-use mathlib.Core.Path.{_≡_, refl, sym, ap, _∙_}
-use mathlib.Core.Bool.{Bool, not, _&&_, and-false}
+use mathlib.Core.Path.{_≡_, ap}
+use mathlib.Core.Bool.{not, and-false}
 use mathlib.Core.List.{List}
 use Prim.Native.Nat.{ℕ, _+_, _-_, _≤_, _<_}
 use native.Mathlib.Omega.{arith}
 use borrow.Author.Tests.{lt-ltb, le-ltb, eq-eqb, ne-eqb}
-use lib.Dec.{eqb, ltb}
+use lib.Dec.{eqb}
 use lib.ListN.{length, getD, drop}
 use Rattle.parse.specs.Run.{span}
-use Rattle.parse.specs.Choice.{if}
 use Rattle.parse.proofs.Runs.{span-stop}
 use Rattle.header.specs.Header.{firstLine}
 

@@ -1,5 +1,5 @@
 -- Tokens at the front of a text: up to the next space, or all that is left.
-use mathlib.Core.Path.{_≡_, refl, sym, ap, _∙_}
+use mathlib.Core.Path.{_≡_, refl, ap, _∙_}
 use mathlib.Core.Bool.{Bool, true, false, not}
 use mathlib.Core.List.{List, [], _∷_}
 use Prim.Native.Nat.{ℕ, suc, _+_, _-_, _≤_, _<_}
@@ -9,7 +9,6 @@ use lib.ListN.{length, take, drop, length-drop}
 use lib.Seq.{drop-drop}
 use Rattle.parse.specs.Choice.{if}
 use Rattle.parse.specs.Run.{span}
-use Rattle.parse.proofs.Runs.{span-le}
 use Rattle.header.specs.declared.Header.{Header}
 use Rattle.header.specs.Header.{onFirst, tokens, noted, allNoted}
 
@@ -38,9 +37,6 @@ first-token (b ∷ s) h = go (eqb b 32) h (first-token s)
 module _ (text : List ℕ) (from end : ℕ) (old new : Header) (e : end ≡ from + word (drop from text)) (n : new ≡ noted (take (end - from) (drop from text)) old) where
   size : end - from ≡ word (drop from text)
   size = omega arith
-
-  pub token-inside : from ≤ length text → end ≤ length text
-  token-inside h = omega (arith, span-le (λ b. not (eqb b 32)) (drop from text), length-drop from text)
 
   pub noted-last : length text ≤ end → new ≡ allNoted (tokens (drop from text)) old
   noted-last h = n ∙ rw (size, last-token (drop from text) (omega (arith, length-drop from text)))

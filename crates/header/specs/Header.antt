@@ -1,5 +1,5 @@
 -- The header of a file.
-use mathlib.Core.Bool.{Bool, true, false, not, _&&_}
+use mathlib.Core.Bool.{true, false, not, _&&_}
 use mathlib.Core.List.{List, [], _∷_}
 use Prim.Native.Nat.{ℕ, _-_}
 use lib.Dec.{ltb, eqb}
@@ -10,7 +10,6 @@ use Rattle.parse.specs.Limit.{overLimit}
 use Rattle.parse.specs.Line.{textAt, ended}
 use Rattle.compare.specs.Prefix.{begins, same}
 use Rattle.parse.specs.Run.{span}
-use Rattle.header.specs.declared.Peeled.{Peeled}
 use Rattle.header.specs.declared.Peeled.the-variants.{Unspecified, Partial, Fully}
 use Rattle.header.specs.declared.Header.{Header}
 use Rattle.header.specs.declared.Opened as opened
@@ -79,6 +78,11 @@ headerOf byte s =
     (opened.the-variants.Unreadable (firstLine s)))
     (opened.the-variants.Unreadable (firstLine s)))
     (opened.the-variants.Header (plainHeader 0))
+
+-- what comes of it: f of the header, or g of the length of the text that can't be read
+abbrev pub headed {ℓ} : {A : Type ℓ} → Opened → (Header → A) → (ℕ → A) → A
+headed (opened.the-variants.Header h) f g = f h
+headed (opened.the-variants.Unreadable text) f g = g text
 
 -- the answer to any bytes, with the size limit first
 unfoldable pub headerAnswer : List ℕ → HeaderAnswer

@@ -5,7 +5,7 @@ ghost use Prim.Native.Nat.{_+_};
 ghost use lib.Dec.{eqb};
 ghost use lib.ListN.{drop};
 ghost use Rattle.parse.specs.Run.{span};
-ghost use Rattle.class.specs.Class.{paper, classesOf};
+ghost use Rattle.class.specs.Class.{classesOf};
 ghost use Rattle.header.specs.Header.{headerOf, allNoted, tokens, noted, firstLine, headerAnswer, plainHeader};
 use parse::line::Text;
 
@@ -30,7 +30,7 @@ pub enum Opened {
     Unreadable(usize),
 }
 
-// The same for any bytes, with the size limit first.
+// The same, with the size limit first.
 pub enum HeaderAnswer {
     Done(Opened),
     TooLarge,

@@ -75,7 +75,7 @@ pub extern "C" fn packed_refs_check(kind: u32, file: &[u8]) -> CheckReply
     reply_file::verdict::check_reply(kind, file)
 }
 
-// The start of the record that a place lies in. The place alone: there is no refusal.
+// The start of the record that a place lies in. The place alone: there is no number, so 17 is not asked, and bytes of any size are taken.
 #[no_mangle]
 pub extern "C" fn packed_refs_record_start(bytes: &[u8], place: usize) -> usize
     ensures { λ r. ⌜ r ≡ recordStart (now (bytes .entry)) place ⌝ }

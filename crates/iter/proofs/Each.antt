@@ -6,23 +6,21 @@ use Prim.Native.Nat.{ℕ, suc, _+_, _-_, _≤_, _<_}
 use native.Mathlib.Nat.{add-zero}
 use native.Mathlib.Omega.{arith}
 use lib.Dec.{eqb}
-use lib.ListN.{getD, length, take, drop, length-append, length-drop, drop-of-length-le}
+use lib.ListN.{getD, length, take, drop, length-append, length-drop}
 use lib.Seq.{drop-drop, getD-drop, length-take-le}
-use borrow.Author.Tests.{eqb-true, lt-ltb}
+use borrow.Author.Tests.{eqb-true}
 use Rattle.parse.specs.Choice.{if}
 use Rattle.class.specs.Class.{Classes, paper}
 use Rattle.parse.specs.Line.{lineLen}
 use Rattle.parse.proofs.Fronts.{lineLen-some}
 use Rattle.decode.specs.declared.reference.Fault.{Fault}
-use Rattle.decode.specs.declared.reference.Reading.{Reading}
-use Rattle.decode.specs.declared.reference.Reading.the-variants.{Good, Bad}
+use Rattle.decode.specs.declared.reference.Reading.the-variants.{Bad}
 use Rattle.decode.specs.Record.{recordOf}
 use Rattle.probe.specs.RecordStart.{lineStart}
 use Rattle.probe.proofs.Starts.{line-stop}
-use Rattle.iter.specs.Items.{Item, coveredBy, sizeOf, itemOf, items, bytesOf}
-use Rattle.iter.specs.Stands.{Stands, Lines, one, two, Each, Tiled}
-use Rattle.iter.specs.Step.{stepBy, stepOf}
-use Rattle.iter.proofs.Items.{items-nil, items-step, some-item, size-le, size-some, tile}
+use Rattle.iter.specs.Items.{Item, sizeOf, itemOf, items, bytesOf}
+use Rattle.iter.specs.Stands.{Stands, Lines, one, two, EachItem, Tiled}
+use Rattle.iter.proofs.Items.{items-step, some-item, size-le, size-some, tile}
 use Rattle.iter.proofs.Covers.{Covered, line, pair, covered}
 
 -- ---- a line with bytes behind it ends with a line feed, so that a line begins behind it
@@ -74,7 +72,7 @@ module _ (n : ℕ) where
   unfolding sizeOf
   error-line t f e = rw e
 
-  each-here : (s : List ℕ) (p : ℕ) (it : Item) → p < length s → it ≡ itemOf paper n (drop p s) → lineStart s p ≡ p → Each n s p it
+  each-here : (s : List ℕ) (p : ℕ) (it : Item) → p < length s → it ≡ itemOf paper n (drop p s) → lineStart s p ≡ p → EachItem n s p it
   each-here s p it inside e start =
       let t = drop p s in
       let l : length t ≡ length s - p = length-drop p s in
@@ -91,7 +89,7 @@ module _ (n : ℕ) where
   -- ---- from item to item
 
   each-from : (before : List Item) (it : Item) (after : List Item) (s : List ℕ) (p : ℕ) → (p < length s → lineStart s p ≡ p)
-      → items paper n (drop p s) ≡ before ++ it ∷ after → Each n s (p + length (bytesOf before)) it
+      → items paper n (drop p s) ≡ before ++ it ∷ after → EachItem n s (p + length (bytesOf before)) it
   each-from [] it after s p start e =
       let some : 0 < length (drop p s) = some-item paper n (drop p s) it after e in
       let inside : p < length s = omega (arith, length-drop p s) in
@@ -106,7 +104,7 @@ module _ (n : ℕ) where
       let z : p + length (b .bytes ++ bytesOf bs) ≡ p + k + length (bytesOf bs) = omega (arith, length-append (b .bytes) (bytesOf bs)) in
       rw z (each-from bs it after s (p + k) (item-behind s p) (rw (drop-drop k p s) at rest))
 
-  pub each : (s : List ℕ) (place : ℕ) (it : Item) → Stands paper n s place it → Each n s place it
+  pub each : (s : List ℕ) (place : ℕ) (it : Item) → Stands paper n s place it → EachItem n s place it
   each s place it h =
       let z : 0 + length (bytesOf (h .before)) ≡ place = omega (arith, h .here) in
       rw z at (each-from (h .before) it (h .after) s 0 (λ l. refl) (h .all))

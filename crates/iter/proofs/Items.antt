@@ -1,18 +1,18 @@
 -- The list of items unfolds one item at a time, each goes forward, and together they are all the bytes. For any classes.
-use mathlib.Core.Path.{_≡_, refl, sym, ap, _∙_}
-use mathlib.Core.List.{List, [], _∷_, _++_}
-use Prim.Native.Nat.{ℕ, zero, suc, pred, _+_, _-_, _≤_, _<_}
+use mathlib.Core.Path.{_≡_, refl}
+use mathlib.Core.List.{List, [], _∷_}
+use Prim.Native.Nat.{ℕ, zero, suc, pred, _-_, _≤_, _<_}
 use native.Mathlib.Omega.{arith}
-use lib.ListN.{length, take, drop, length-drop, take-append-drop}
+use lib.ListN.{length, drop, length-drop, take-append-drop}
 use Rattle.class.specs.Class.{Classes}
 use Rattle.parse.specs.Line.{lineLen}
 use Rattle.parse.proofs.Fronts.{lineLen-le, lineLen-some}
 use Rattle.decode.specs.declared.reference.Record.{Record}
 use Rattle.decode.specs.declared.reference.Reading.{Reading}
 use Rattle.decode.specs.declared.reference.Reading.the-variants.{Good, Bad}
-use Rattle.decode.specs.Record.{recordOf}
-use Rattle.decode.proofs.Records.{Fits, fits}
-use Rattle.iter.specs.Items.{Item, coveredBy, sizeOf, itemOf, itemsBehind, items, bytesOf}
+use Rattle.decode.specs.Record.{recordOf, decoded}
+use Rattle.decode.proofs.Records.{fits}
+use Rattle.iter.specs.Items.{Item, sizeOf, itemOf, itemsBehind, items, bytesOf}
 
 module _ (byte : Classes) (n : ℕ) where
   pub size-good : (s : List ℕ) (r : Record) → recordOf byte n s ≡ Good r → sizeOf byte n s ≡ r .size
@@ -25,7 +25,7 @@ module _ (byte : Classes) (n : ℕ) where
   unfolding sizeOf
   size-le s = go (recordOf byte n s) refl
     where
-      go : (w : Reading) → recordOf byte n s ≡ w → coveredBy w (lineLen s) ≤ length s
+      go : (w : Reading) → recordOf byte n s ≡ w → decoded w (λ r. r .size) (λ f. lineLen s) ≤ length s
       go (Good r) e = fits byte n s r e .inside
       go (Bad f) e = lineLen-le s
 
@@ -33,7 +33,7 @@ module _ (byte : Classes) (n : ℕ) where
   unfolding sizeOf
   size-some s h = go (recordOf byte n s) refl
     where
-      go : (w : Reading) → recordOf byte n s ≡ w → 1 ≤ coveredBy w (lineLen s)
+      go : (w : Reading) → recordOf byte n s ≡ w → 1 ≤ decoded w (λ r. r .size) (λ f. lineLen s)
       go (Good r) e = omega (arith, fits byte n s r e .holds)
       go (Bad f) e = lineLen-some s h
 

@@ -1,5 +1,6 @@
 pub mod Covers
 pub mod Each
+pub mod Entries
 pub mod ItemRead
 pub mod Items
 pub mod Steps

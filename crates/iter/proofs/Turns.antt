@@ -7,12 +7,12 @@ use lib.ListN.{length, take, drop, length-drop}
 use lib.Seq.{drop-drop, length-take-le}
 use Rattle.class.specs.Class.{Classes}
 use Rattle.parse.specs.Line.{lineLen}
-use Rattle.parse.proofs.Slices.{part-of-front}
 use Rattle.decode.specs.declared.reference.Fault.{Fault}
 use Rattle.decode.specs.declared.reference.Record.{Record}
 use Rattle.decode.specs.declared.reference.Reading.{Reading}
 use Rattle.decode.specs.declared.reference.Reading.the-variants.{Good, Bad}
 use Rattle.decode.specs.Record.{recordOf}
+use Rattle.decode.proofs.Entry.{name-inside}
 use Rattle.decode.proofs.Records.{fits}
 use Rattle.iter.specs.Items.{Item, sizeOf, itemOf, items, nameIn, nameOf}
 use Rattle.iter.proofs.Items.{size-good, size-le, items-step}
@@ -21,10 +21,9 @@ use Rattle.iter.proofs.Items.{size-good, size-le, items-step}
 pub item-name : (byte : Classes) (n : ℕ) (s : List ℕ) (r : Record) → recordOf byte n s ≡ Good r
     → nameOf n (itemOf byte n s) ≡ take (r .«name_len») (drop (n + 1) s)
 item-name byte n s r e =
-    let f = fits byte n s r e in
     ap (λ (w : Reading). nameIn n w (take (sizeOf byte n s) s)) e
     ∙ ap (λ (k : ℕ). take (r .«name_len») (drop (n + 1) (take k s))) (size-good byte n s r e)
-    ∙ part-of-front (r .«name_len») (n + 1) (r .size) s (omega (arith, f .holds))
+    ∙ name-inside byte n s r e
 
 -- the item at a place, and those behind it
 pub record HeadItem (byte : Classes) (n : ℕ) (file : List ℕ) (place : ℕ) (what : Reading) (size : ℕ) : Type 0 where
@@ -56,9 +55,7 @@ module _ (byte : Classes) (n : ℕ) (file : List ℕ) (place : ℕ) where
   module _ (r : Record) (e : recordOf byte n (drop place file) ≡ Good r) where
     pub head-good : place < length file → HeadItem byte n file place (Good r) (r .size)
     head-good inside =
-        let f = fits byte n (drop place file) r e in
-        head-item inside (Good r) (r .size) e (size-good byte n (drop place file) r e)
-        (part-of-front (r .«name_len») (n + 1) (r .size) (drop place file) (omega (arith, f .holds)))
+        head-item inside (Good r) (r .size) e (size-good byte n (drop place file) r e) (name-inside byte n (drop place file) r e)
 
     pub next-inside : place < length file → (place < place + r .size) × (place + r .size ≤ length file)
     next-inside inside =

@@ -1,28 +1,23 @@
 -- The items of a body: each a good record, or an error that covers a line.
 use mathlib.Core.List.{List, [], _∷_, _++_}
-use Prim.Native.Nat.{ℕ, zero, suc, pred, _+_}
-use lib.ListN.{take, drop}
+use Prim.Native.Nat.{ℕ, zero, suc, pred}
+use lib.ListN.{take}
 use Rattle.class.specs.Class.{Classes}
 use Rattle.parse.specs.Line.{lineLen}
-use Rattle.decode.specs.declared.reference.Record.{Record}
 use Rattle.decode.specs.declared.reference.Reading.{Reading}
-use Rattle.decode.specs.declared.reference.Reading.the-variants.{Good, Bad}
-use Rattle.decode.specs.Record.{recordOf}
+use Rattle.decode.specs.Entry.{entryOf}
+use Rattle.decode.specs.Record.{recordOf, decoded}
 
 -- what was read, and the bytes that it covers. An item does not hold its place, so the same bytes are the same item wherever they stand
 pub record Item : Type 0 where
   pub what : Reading
   pub bytes : List ℕ
 
--- a good record covers its bytes; "On a bad one the item is an error covering from its start through the next LF, or the rest if none."
-abbrev pub coveredBy : Reading → ℕ → ℕ
-coveredBy (Good r) line = r .size
-coveredBy (Bad f) line = line
-
 module _ (byte : Classes) (n : ℕ) where
-  -- the size of the item at the front of s
+  -- the size of the item at the front of s: a good record covers its bytes; "On a bad one the item is an error covering from its start through the
+  -- next LF, or the rest if none."
   unfoldable pub sizeOf : List ℕ → ℕ
-  sizeOf s = coveredBy (recordOf byte n s) (lineLen s)
+  sizeOf s = decoded (recordOf byte n s) (λ r. r .size) (λ f. lineLen s)
 
   abbrev pub itemOf : List ℕ → Item
   itemOf s = record { what = recordOf byte n s; bytes = take (sizeOf s) s }
@@ -45,8 +40,7 @@ bytesOf (i ∷ l) = i .bytes ++ bytesOf l
 
 -- the name of an item with ids of n digits; an error has none
 abbrev pub nameIn : ℕ → Reading → List ℕ → List ℕ
-nameIn n (Good r) s = take (r .«name_len») (drop (n + 1) s)
-nameIn n (Bad f) s = []
+nameIn n what s = decoded what (λ r. entryOf n s r .name) (λ f. [])
 
 abbrev pub nameOf : ℕ → Item → List ℕ
 nameOf n i = nameIn n (i .what) (i .bytes)

@@ -1,3 +1,4 @@
+pub mod Entries
 pub mod Items
 pub mod Stands
 pub mod Step

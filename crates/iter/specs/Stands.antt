@@ -1,6 +1,6 @@
 -- An item at its place in a body, and what each item is.
 use mathlib.Core.Path.{_≡_}
-use mathlib.Core.List.{List, [], _∷_, _++_}
+use mathlib.Core.List.{List, _∷_, _++_}
 use Prim.Native.Nat.{ℕ, _+_, _≤_, _<_}
 use lib.ListN.{length, take, drop}
 use Rattle.class.specs.Class.{Classes, paper}
@@ -36,8 +36,8 @@ pub data Lines (t b : List ℕ) : Type 0 where
   two : b ≡ take (lineLen t + lineLen (drop (lineLen t) t)) t → Lines t b
 
 -- every item is what reading at its place gives, goes forward, begins a line and covers whole lines;
--- "every error covers one line or the rest"
-pub record Each (n : ℕ) (s : List ℕ) (place : ℕ) (it : Item) : Type 0 where
+-- an error covers one line: "from its start through the next LF, or the rest if none"
+pub record EachItem (n : ℕ) (s : List ℕ) (place : ℕ) (it : Item) : Type 0 where
   pub read : it ≡ itemOf paper n (drop place s)
   pub forward : 0 < length (it .bytes)
   pub inside : place + length (it .bytes) ≤ length s

@@ -1,9 +1,8 @@
 -- One step of an iteration, at a place of the bytes s and with an item number.
-use mathlib.Core.Bool.{Bool}
-use mathlib.Core.List.{List, []}
+use mathlib.Core.List.{List}
 use Prim.Native.Nat.{ℕ, _+_, _-_}
 use lib.Dec.{ltb}
-use lib.ListN.{length, take, drop}
+use lib.ListN.{length, drop}
 use Rattle.parse.specs.Choice.{if}
 use Rattle.class.specs.Class.{Classes, paper}
 use Rattle.parse.specs.Limit.{admission, admit}

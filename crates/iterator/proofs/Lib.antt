@@ -1,4 +1,4 @@
 pub mod Fields
 pub mod Lent
 pub mod Params
-pub mod Run
+pub mod Iteration

@@ -1,4 +1,4 @@
--- Document 01's worked examples of name lengths.
+-- Name lengths: document 01's worked examples, and three cases beside them.
 use mathlib.Core.List.{List, [], _∷_}
 use Prim.Native.Nat.{ℕ}
 use Rattle.length.specs.declared.Length.{Length}

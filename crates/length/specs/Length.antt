@@ -19,7 +19,7 @@ lengthAt s at =
     (if (ltb 0 high && ltb high 128) (Of (low % 128 + 128 * high) (at + 1 + 1)) Malformed))
     Malformed
 
--- what comes of a length and the place behind it; or of a form that a length doesn't have
+-- what comes of a length and the place behind it; or of bytes that are no length
 abbrev pub measured {ℓ} : {A : Type ℓ} → Length → (ℕ → ℕ → A) → A → A
 measured (Of value next) f other = f value next
 measured Malformed f other = other

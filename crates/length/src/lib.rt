@@ -3,7 +3,7 @@ ghost use mathlib.Core.Path.{_≡_};
 ghost use Prim.Native.Nat.{_<_};
 ghost use Rattle.length.specs.Length.{lengthAt};
 
-// A length and the place behind it; or a form that a length doesn't have.
+// A length and the place behind it; or bytes that are no length.
 pub enum Length {
     Of { value: usize, next: usize },
     Malformed,

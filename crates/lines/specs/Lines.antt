@@ -2,12 +2,7 @@
 use mathlib.Core.List.{List, [], _∷_, _++_}
 use mathlib.Core.Option.{Option, none, some}
 use Prim.Native.Nat.{ℕ}
-
--- a record: its name, its id, and its peeled id if it has one, both in digits
-pub record Entry : Type 0 where
-  pub name : List ℕ
-  pub id : List ℕ
-  pub peeled : Option (List ℕ)
+use Rattle.decode.specs.Entry.{Entry}
 
 -- "every line ends in LF": 10. A space is 32, `^` is 94
 abbrev pub recordLine : List ℕ → List ℕ → List ℕ

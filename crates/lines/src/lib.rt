@@ -6,7 +6,7 @@ ghost use Rattle.hex.specs.Hex.{hexText};
 ghost use Rattle.put.specs.Put.{over, placeBehind};
 ghost use Rattle.lines.specs.Lines.{headerLine, recordLine, peeledLine};
 
-// The header of a file in name order whose records are all peeled: `# pack-refs with: peeled fully-peeled sorted ` and LF.
+// The header that every new file gets: `# pack-refs with: peeled fully-peeled sorted ` and LF.
 pub fn header() -> [u8; 46]
     ensures { λ r. ⌜ r ≡ headerLine ⌝ }
 {

@@ -28,7 +28,7 @@ use Rattle.sort.proofs.Theorems.{no-twin-names-rise}
 use Rattle.edits.specs.declared.list.Prepared.the-variants.{Ready, ShortIndex, TooLarge}
 use Rattle.edits.specs.List.{Listed, all, bad, editsOf, placesOf, inOrder, twinsBy, twinsOf, preparedBy, preparedOf}
 use Rattle.edits.proofs.Ordering.{length-order}
-use Rattle.merge.specs.Entry.{editsAt}
+use Rattle.merge.specs.Override.{editsAt}
 use Rattle.merge.specs.Splice.{Above, Rising}
 use Rattle.merge.proofs.EditsSound.{IsEdit, places-edits, edit-name-valid, edit-puts}
 use Rattle.merge.proofs.Entries.{Rises}

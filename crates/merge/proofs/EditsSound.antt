@@ -12,7 +12,6 @@ use Rattle.parse.specs.Choice.{if}
 use Rattle.class.specs.Class.{Classes, paper}
 use Rattle.name.specs.Name.{validName}
 use Rattle.sort.proofs.Pairs.{Each}
-use Rattle.edit.specs.declared.Edit.{Edit}
 use Rattle.edit.specs.declared.EditReading.{EditReading}
 use Rattle.edit.specs.declared.EditReading.the-variants.{Good, Bad}
 use Rattle.length.specs.declared.Length.the-variants as long
@@ -22,10 +21,10 @@ use Rattle.parts.specs.Parts.{editKind, editName, behindName}
 use Rattle.parts.proofs.Parts.{name-there, behind-there}
 use Rattle.edit.specs.Edit.{idBytes, editOf}
 use Rattle.edits.specs.declared.list.ListFault.the-variants.{TooMany}
-use Rattle.edits.specs.List.{Listed, all, bad, onto, listedBy, editsFrom, editsOf}
+use Rattle.edits.specs.List.{Listed, all, bad, withPlace, listedBy, editsFrom, editsOf}
 use Rattle.hex.specs.Hex.{hexText}
 use Rattle.hex.proofs.Laws.{length-hex, hex-is-hex}
-use Rattle.merge.specs.Entry.{newOf, editAt}
+use Rattle.merge.specs.Override.{newOf, editAt}
 use Rattle.edit.proofs.Parts.{Whole, good-whole}
 use Rattle.merge.proofs.Entries.{Digits, AllOf}
 
@@ -45,22 +44,22 @@ module _ (byte : Classes) (n : ℕ) (list : List ℕ) where
       go false e = absurd (let z : _≡_ {A = ℕ} 0 1 = cc in omega arith)
   edits-from (suc turns) place (p ∷ l) e = go (ltb place (length list)) (editOf byte n (drop place list)) refl (λ k. edits-from turns k l) e
     where
-      next : (c : Edit) → editOf byte n (drop place list) ≡ Good c → (x : Listed) → editsFrom byte n list turns (place + c .size) ≡ x
+      next : (size : ℕ) → editOf byte n (drop place list) ≡ Good size → (x : Listed) → editsFrom byte n list turns (place + size) ≡ x
           → ((k : ℕ) → editsFrom byte n list turns k ≡ all l → Each IsEdit l × (length l ≤ turns))
-          → onto place x ≡ all (p ∷ l) → Each IsEdit (p ∷ l) × (length (p ∷ l) ≤ suc turns)
-      next c q (all m) r rest e =
+          → withPlace place x ≡ all (p ∷ l) → Each IsEdit (p ∷ l) × (length (p ∷ l) ≤ suc turns)
+      next size q (all m) r rest e =
           let z : place ≡ p = cc in
           let y : m ≡ l = cc in
-          let w = rest (place + c .size) (r ∙ ap all y) in
-          ((rw z at (good-whole byte n (drop place list) c q), w .0), omega (arith, w .1))
-      next c q (bad why) r rest e = absurd (let z : _≡_ {A = ℕ} 0 1 = cc in omega arith)
+          let w = rest (place + size) (r ∙ ap all y) in
+          ((rw z at (good-whole byte n (drop place list) size q), w .0), omega (arith, w .1))
+      next size q (bad why) r rest e = absurd (let z : _≡_ {A = ℕ} 0 1 = cc in omega arith)
 
       go : (t : Bool) (x : EditReading) → editOf byte n (drop place list) ≡ x
           → ((k : ℕ) → editsFrom byte n list turns k ≡ all l → Each IsEdit l × (length l ≤ turns))
-          → if t (listedBy x place (λ c. onto place (editsFrom byte n list turns (place + c .size)))) (all []) ≡ all (p ∷ l)
+          → if t (listedBy x place (λ size. withPlace place (editsFrom byte n list turns (place + size)))) (all []) ≡ all (p ∷ l)
           → Each IsEdit (p ∷ l) × (length (p ∷ l) ≤ suc turns)
       go false x q rest e = absurd (let z : _≡_ {A = ℕ} 0 1 = cc in omega arith)
-      go true (Good c) q rest e = next c q (editsFrom byte n list turns (place + c .size)) refl rest e
+      go true (Good size) q rest e = next size q (editsFrom byte n list turns (place + size)) refl rest e
       go true (Bad f) q rest e = absurd (let z : _≡_ {A = ℕ} 0 1 = cc in omega arith)
 
   pub places-edits : (places : List ℕ) → editsOf byte n list ≡ all places → Each IsEdit places × (length places ≤ 4096)

@@ -9,8 +9,8 @@ use Rattle.compare.specs.declared.order.Order.the-variants.{Less}
 use Rattle.class.specs.Class.{paper, isHex}
 use Rattle.compare.specs.Order.{orderOf}
 use Rattle.name.specs.Name.{validName}
-use Rattle.lines.specs.Lines.{Entry}
-use Rattle.merge.specs.Entry.{Override}
+use Rattle.decode.specs.Entry.{Entry}
+use Rattle.merge.specs.Override.{Override}
 
 pub record Digits (n : ℕ) (id : List ℕ) : Type 0 where
   pub long : length id ≡ n

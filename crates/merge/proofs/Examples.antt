@@ -19,7 +19,7 @@ use Rattle.sort.specs.Twin.{firstTwin}
 use Rattle.edit.specs.Edit.{editOf, namedEdit}
 use Rattle.edits.specs.List.{editsFrom, editsOf, twinsOf, preparedOf, indexAfter}
 use Rattle.hex.specs.Hex.{hexDigit}
-use Rattle.merge.specs.Merge.{newFile, finished, oldEntries, judged, editsInOrder, mergeOf, mergeAnswer, outputAfter, indexAnswer}
+use Rattle.merge.specs.Merge.{newFile, finished, oldEntries, judged, editsInOrder, mergeOf, outputOf, mergeAnswer, outputAfter, indexAnswer}
 use Rattle.merge.specs.Examples.{allComputed, lengths, cases, numbered, longInputs}
 
 pub as-long-as-said : lengths ≡ 46 ∷ 188 ∷ 10 ∷ 40 ∷ 146 ∷ []
@@ -29,7 +29,7 @@ pub every-case : allComputed cases ≡ cases
 unfolding isHex isForbidden isLineEnd byteAt idAt eol newlineAt textAt noted firstLine headerOf recordOf sizeOf itemsBehind items judgeBody checkOf
     noComponentBeginsWithDot noLockAtTheEnd hasSlash noDotDot noForbiddenByte slashesApart noDotAtTheEnd noAtBrace notTheLoneAt validName
     digitsOf overLimit admission lengthAt editOf namedEdit behindName editName before sorted firstTwin editsFrom editsOf twinsOf preparedOf indexAfter
-    hexDigit newFile finished oldEntries judged editsInOrder mergeOf mergeAnswer outputAfter indexAnswer
+    hexDigit newFile finished oldEntries judged editsInOrder mergeOf outputOf mergeAnswer outputAfter indexAnswer
 every-case = refl
 
 pub long-inputs : numbered longInputs ≡ longInputs

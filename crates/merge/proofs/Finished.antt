@@ -1,5 +1,5 @@
 -- The answer by the spliced file is the merge's answer: no record remains exactly if the new file is its header.
-use mathlib.Core.Path.{_≡_}
+use mathlib.Core.Path.{_≡_, sym, _∙_}
 use mathlib.Core.Bool.{Bool}
 use mathlib.Core.List.{List, [], _∷_, _++_}
 use Prim.Native.Nat.{ℕ, _<_}
@@ -7,9 +7,10 @@ use native.Mathlib.Omega.{arith}
 use lib.Dec.{eqb}
 use lib.ListN.{length, length-append}
 use borrow.Author.Tests.{eq-eqb, ne-eqb}
-use Rattle.lines.specs.Lines.{Entry, recordLine, peeledLines, linesOf, linesOfAll, headerLine}
-use Rattle.merge.specs.Entry.{Override}
-use Rattle.merge.specs.Merge.{overridden, isNone, isIdle, newFile, finished}
+use Rattle.decode.specs.Entry.{Entry}
+use Rattle.lines.specs.Lines.{recordLine, peeledLines, linesOf, linesOfAll, headerLine}
+use Rattle.merge.specs.Override.{Override}
+use Rattle.merge.specs.Merge.{overridden, isIdle, newFile, finished}
 use Rattle.merge.specs.Splice.{splicedAnswer}
 
 -- a record's line holds at least a space
@@ -22,7 +23,7 @@ lines-some e =
     )
 
 -- lines behind a header, which is a variable here so that no step computes with its bytes
-none-behind : (header : List ℕ) (l : List Entry) → eqb (length (header ++ linesOfAll l)) (length header) ≡ isNone l
+none-behind : (header : List ℕ) (l : List Entry) → eqb (length (header ++ linesOfAll l)) (length header) ≡ eqb (length l) 0
 none-behind header [] = eq-eqb (length (header ++ [])) (length header) (omega (arith, length-append header []))
 none-behind header (e ∷ l) =
     ne-eqb (length (header ++ linesOfAll (e ∷ l))) (length header)
@@ -32,8 +33,9 @@ none-behind header (e ∷ l) =
       length-append (linesOf e) (linesOfAll l),
       lines-some e,
     ))
+    ∙ sym (ne-eqb (length (e ∷ l)) 0 (λ z. omega arith))
 
-pub none-remains : (olds : List Entry) (edits : List Override) → eqb (length (newFile olds edits)) (length headerLine) ≡ isNone (overridden olds edits)
+pub none-remains : (olds : List Entry) (edits : List Override) → eqb (length (newFile olds edits)) (length headerLine) ≡ eqb (length (overridden olds edits)) 0
 unfolding newFile
 none-remains olds edits = none-behind headerLine (overridden olds edits)
 

@@ -9,8 +9,14 @@ use Rattle.compare.specs.declared.order.Order.{Order}
 use Rattle.compare.specs.declared.order.Order.the-variants.{Less, Equal, Greater}
 use Rattle.class.specs.Class.{paper}
 use Rattle.compare.specs.Order.{orderOf}
+use Rattle.decode.specs.declared.reference.Record.{Record}
+use Rattle.decode.specs.declared.reference.Reading.{Reading}
+use Rattle.decode.specs.declared.reference.Reading.the-variants.{Good, Bad}
+use Rattle.decode.specs.Entry.{Entry, entryOf}
+use Rattle.decode.specs.Record.{decoded}
+use Rattle.iter.specs.Entries.{entriesOf}
 use Rattle.checks.specs.declared.Verdict.the-variants.{Clean}
-use Rattle.iter.specs.Items.{Item, items, nameOf, bytesOf}
+use Rattle.iter.specs.Items.{Item, items, nameIn, nameOf, bytesOf}
 use Rattle.checks.specs.Check.{judgeBody}
 use Rattle.checks.specs.Passes.{Passes}
 use Rattle.iter.proofs.Items.{tile}
@@ -20,12 +26,13 @@ use Rattle.put.specs.Put.{over}
 use Rattle.put.specs.Cr.{withoutCR}
 use Rattle.put.proofs.Laws.{over-fits}
 use Rattle.put.proofs.Crs.{without-append}
-use Rattle.lines.specs.Lines.{Entry, linesOf, linesOfAll, headerLine}
-use Rattle.merge.specs.Entry.{Override, entryOf, entriesOf, editAt, editsAt}
+use Rattle.lines.specs.Lines.{linesOf, linesOfAll, headerLine}
+use Rattle.merge.specs.Override.{Override, editAt, editsAt}
 use Rattle.merge.specs.Merge.{overridden, newFile}
 use Rattle.runs.specs.Runs.{Run, run, runsOf, marksOf}
 use Rattle.merge.specs.Splice.{spliced, splicedFile}
-use Rattle.merge.proofs.OldLines.{AllPlain, olds-plain}
+use Rattle.merge.proofs.GoodItems.{OfGood}
+use Rattle.merge.proofs.OldLines.{PlainRecord, AllPlain, olds-plain}
 use Rattle.runs.proofs.RunSteps.{runs-less, runs-equal, runs-greater, length-runs}
 use Rattle.runs.proofs.RunTurns.{length-marks}
 use Rattle.merge.proofs.Splice.{newLines, oldBytes}
@@ -38,10 +45,12 @@ lines-append (e ∷ a) b = ap (λ l. linesOf e ++ l) (lines-append a b) ∙ sym 
 
 lines-plain : (n : ℕ) (l : List Item) → AllPlain n l → withoutCR (bytesOf l) ≡ linesOfAll (entriesOf n l)
 lines-plain n [] a = refl
-lines-plain n (i ∷ l) a =
-    without-append (i .bytes) (bytesOf l)
-    ∙ ap (λ s. s ++ withoutCR (bytesOf l)) (a .0)
-    ∙ ap (λ s. linesOf (entryOf n i) ++ s) (lines-plain n l (a .1))
+lines-plain n (i ∷ l) a = without-append (i .bytes) (bytesOf l) ∙ go (i .what) (a .0) (lines-plain n l (a .1))
+  where
+    go : (w : Reading) → OfGood (PlainRecord n) w (i .bytes) → withoutCR (bytesOf l) ≡ linesOfAll (entriesOf n l)
+        → withoutCR (i .bytes) ++ withoutCR (bytesOf l) ≡ linesOfAll (decoded w (λ r. entryOf n (i .bytes) r ∷ entriesOf n l) (λ f. entriesOf n l))
+    go (Good r) first rest = rw (first, rest)
+    go (Bad f) first rest = absurd first
 
 -- ---- the old records overridden by the edits, one of either at a time
 
@@ -104,6 +113,43 @@ module _ (n : ℕ) (file list : List ℕ) where
       ap (λ l. oldBytes file from place ++ (newLines n list p ++ l)) (e ∙ ap (λ o. o ++ linesOfAll rest) (none-old file to))
       ∙ ap (λ l. oldBytes file from place ++ l) (sym (lines-append (editAt n list p .new) rest))
 
+  -- one edit, where the first item is a record
+  module _
+      (r : Record)
+      (bytes : List ℕ)
+      (plain : PlainRecord n r bytes)
+      (l : List Item)
+      (p : ℕ)
+      (ps : List ℕ)
+      (from place : ℕ)
+      (d : drop place file ≡ bytes ++ bytesOf l)
+      (h : from ≤ place)
+    where
+      abbrev i : Item
+      i = record { what = Good r; bytes = bytes }
+
+      abbrev next : ℕ
+      next = place + length bytes
+
+      made-one : (o : Order) → orderOf (nameOf n i) (editName list p) ≡ o
+          → Made from next l (p ∷ ps) → Made next next l ps → Made place place (i ∷ l) ps → Made from place (i ∷ l) (p ∷ ps)
+      made-one Less o less equal greater =
+          let rest = overridden (entriesOf n l) (editsAt n list (p ∷ ps)) in
+          ap (λ rs. spliced n file list from (p ∷ ps) (marksOf rs)) (runs-less n list place i l p ps o)
+          ∙ less
+          ∙ ap (λ s. s ++ linesOfAll rest) (more-old file from place h bytes (bytesOf l) d)
+          ∙ append-assoc (oldBytes file from place) (withoutCR bytes) (linesOfAll rest)
+          ∙ ap (λ s. oldBytes file from place ++ (s ++ linesOfAll rest)) plain
+          ∙ ap (λ es. oldBytes file from place ++ linesOfAll es) (sym (keeps (entryOf n bytes r) (entriesOf n l) (editAt n list p) (editsAt n list ps) o))
+      made-one Equal o less equal greater =
+          ap (λ rs. spliced n file list from (p ∷ ps) (marksOf rs)) (runs-equal n list place i l p ps o)
+          ∙ one-edit from place next p ps (runsOf n list next l ps) (overridden (entriesOf n l) (editsAt n list ps)) equal
+          ∙ ap (λ es. oldBytes file from place ++ linesOfAll es) (sym (replaces (entryOf n bytes r) (entriesOf n l) (editAt n list p) (editsAt n list ps) o))
+      made-one Greater o less equal greater =
+          ap (λ rs. spliced n file list from (p ∷ ps) (marksOf rs)) (runs-greater n list place i l p ps o)
+          ∙ one-edit from place place p ps (runsOf n list place (i ∷ l) ps) (overridden (entriesOf n (i ∷ l)) (editsAt n list ps)) greater
+          ∙ ap (λ es. oldBytes file from place ++ linesOfAll es) (sym (precedes (entryOf n bytes r) (entriesOf n l) (editAt n list p) (editsAt n list ps) o))
+
   made : (l : List Item) (ps : List ℕ) (from place : ℕ) → AllPlain n l → drop place file ≡ bytesOf l → from ≤ place → Made from place l ps
   made l [] from place a d h =
       all-old file from place h
@@ -115,41 +161,30 @@ module _ (n : ℕ) (file list : List ℕ) where
   made (i ∷ l) (p ∷ ps) from place a d h =
       let next = place + length (i .bytes) in
       let behind = next-old file place (i .bytes) (bytesOf l) d in
-      go (orderOf (nameOf n i) (editName list p)) refl
+      go (i .what) (a .0)
       (made l (p ∷ ps) from next (a .1) behind (omega arith))
       (made l ps next next (a .1) behind (omega arith))
       (made (i ∷ l) ps place place a d (omega arith))
     where
-      go : (o : Order) → orderOf (nameOf n i) (editName list p) ≡ o
+      read-as : Reading → List Item
+      read-as w = record { what = w; bytes = i .bytes } ∷ l
+
+      go : (w : Reading) → OfGood (PlainRecord n) w (i .bytes)
           → Made from (place + length (i .bytes)) l (p ∷ ps)
           → Made (place + length (i .bytes)) (place + length (i .bytes)) l ps
-          → Made place place (i ∷ l) ps
-          → Made from place (i ∷ l) (p ∷ ps)
-      go Less o less equal greater =
-          let rest = overridden (entriesOf n l) (editsAt n list (p ∷ ps)) in
-          ap (λ rs. spliced n file list from (p ∷ ps) (marksOf rs)) (runs-less n list place i l p ps o)
-          ∙ less
-          ∙ ap (λ s. s ++ linesOfAll rest) (more-old file from place h (i .bytes) (bytesOf l) d)
-          ∙ append-assoc (oldBytes file from place) (withoutCR (i .bytes)) (linesOfAll rest)
-          ∙ ap (λ s. oldBytes file from place ++ (s ++ linesOfAll rest)) (a .0)
-          ∙ ap (λ es. oldBytes file from place ++ linesOfAll es) (sym (keeps (entryOf n i) (entriesOf n l) (editAt n list p) (editsAt n list ps) o))
-      go Equal o less equal greater =
-          let next = place + length (i .bytes) in
-          ap (λ rs. spliced n file list from (p ∷ ps) (marksOf rs)) (runs-equal n list place i l p ps o)
-          ∙ one-edit from place next p ps (runsOf n list next l ps) (overridden (entriesOf n l) (editsAt n list ps)) equal
-          ∙ ap (λ es. oldBytes file from place ++ linesOfAll es) (sym (replaces (entryOf n i) (entriesOf n l) (editAt n list p) (editsAt n list ps) o))
-      go Greater o less equal greater =
-          ap (λ rs. spliced n file list from (p ∷ ps) (marksOf rs)) (runs-greater n list place i l p ps o)
-          ∙ one-edit from place place p ps (runsOf n list place (i ∷ l) ps) (overridden (entriesOf n (i ∷ l)) (editsAt n list ps)) greater
-          ∙ ap (λ es. oldBytes file from place ++ linesOfAll es) (sym (precedes (entryOf n i) (entriesOf n l) (editAt n list p) (editsAt n list ps) o))
+          → Made place place (read-as w) ps
+          → Made from place (read-as w) (p ∷ ps)
+      go (Good r) plain =
+          made-one r (i .bytes) plain l p ps from place d h (orderOf (nameIn n (Good r) (i .bytes)) (editName list p)) refl
+      go (Bad f) plain = absurd plain
 
   -- marks behind those of the edits do not matter
   marks-front : (ps : List ℕ) (rs : List Run) (from : ℕ) (more : List ℕ) → length rs ≡ length ps
       → spliced n file list from ps (marksOf rs ++ more) ≡ spliced n file list from ps (marksOf rs)
   marks-front [] rs from more h = refl
   marks-front (p ∷ ps) [] from more h = absurd (omega arith)
-  marks-front (p ∷ ps) (r ∷ rs) from more h =
-      ap (λ s. oldBytes file from (r .from) ++ (newLines n list p ++ s)) (marks-front ps rs (r .to) more (omega arith))
+  marks-front (p ∷ ps) (run start end ∷ rs) from more h =
+      ap (λ s. oldBytes file from start ++ (newLines n list p ++ s)) (marks-front ps rs end more (omega arith))
 
 -- ---- a file that passes the check
 

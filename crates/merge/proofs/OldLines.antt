@@ -1,34 +1,31 @@
 -- The bytes of a good record without their CRs are the lines of its entry: only the CRs of its line ends go.
-use mathlib.Core.Path.{_≡_, refl, sym, ap, _∙_}
+use mathlib.Core.Path.{_≡_, sym, ap, _∙_}
 use mathlib.Core.Bool.{true, false, not}
 use mathlib.Core.List.{List, [], _∷_, _++_, append-nil}
-use mathlib.Core.Option.{none, some}
 use Prim.Native.Nat.{ℕ, suc, _+_, _≤_, _<_}
 use native.Mathlib.Numerals.{add-one}
 use native.Mathlib.Omega.{arith}
 use lib.ListN.{getD, take, drop}
-use lib.Seq.{take-take, take-add}
+use lib.Seq.{take-add}
 use borrow.Author.Tests.{ne-eqb}
 use Rattle.class.specs.Class.{paper, isHex, isLineEnd}
 use Rattle.parse.specs.Run.{span}
 use Rattle.parse.specs.Line.{eol}
 use Rattle.parse.proofs.Fronts.{at-drop, Eol, lf, crlf, eol-view}
 use Rattle.parse.proofs.Fronts as fronts
-use Rattle.parse.proofs.Slices.{part-of-front}
 use Rattle.name.specs.Name.{validName}
 use Rattle.name.proofs.Laws.{valid-text}
 use Rattle.decode.specs.declared.reference.Record.{Record}
 use Rattle.decode.specs.declared.reference.Reading.the-variants.{Good}
+use Rattle.decode.specs.Entry.{entryOf}
 use Rattle.decode.specs.Record.{recordOf}
-use Rattle.decode.proofs.Records.{nameLen, afterName, headLen, peelLen, Head, Peel, View, is-bad, plain, peeled, view, fits}
-use Rattle.iter.specs.Items.{Item, sizeOf, itemOf, items, nameOf}
-use Rattle.checks.specs.Passes.{isGood, allGood}
-use Rattle.iter.proofs.Items.{size-good}
-use Rattle.iter.proofs.Turns.{item-name}
+use Rattle.decode.proofs.Entry.{entry-inside}
+use Rattle.decode.proofs.Records.{nameLen, afterName, headLen, peelLen, Head, Peel, View, is-bad, plain, peeled, view}
+use Rattle.iter.specs.Items.{Item, items}
+use Rattle.checks.specs.Passes.{allGood}
 use Rattle.put.specs.Cr.{notCR, withoutCR}
 use Rattle.put.proofs.Crs.{without-append, without-none}
 use Rattle.lines.specs.Lines.{recordLine, peeledLine, linesOf}
-use Rattle.merge.specs.Entry.{peeledIn, entryOf}
 use Rattle.merge.proofs.GoodItems.{Each, each-good}
 use Rattle.merge.proofs.OldSound.{front-digits}
 
@@ -112,58 +109,32 @@ module _ (n : ℕ) (s : List ℕ) where
       rw caret
       (ap withoutCR cut ∙ peeled-without peeled-id (take (eol (drop n second)) (drop n second)) (id-kept n second id) (end-kept (drop n second) end))
 
-  -- ---- the entry of a good record, by its parts in all the bytes
+  -- ---- both lines, or the first alone
 
-  module _ (r : Record) (e : recordOf paper n s ≡ Good r) (z : r .«name_len» ≡ nameLen paper n s) where
-    id-is : take n (take (sizeOf paper n s) s) ≡ take n s
-    id-is = take-take n (sizeOf paper n s) s (omega (arith, size-good paper n s r e, fits paper n s r e .holds))
-
-    name-is : nameOf n (itemOf paper n s) ≡ name
-    name-is = rw (item-name paper n s r e, z, add-one n)
-
-    entry-plain : r .peeled ≡ 0 → entryOf n (itemOf paper n s) ≡ record { name = name; id = take n s; peeled = none }
-    entry-plain o =
-        let w : peeledIn n (recordOf paper n s) (take (sizeOf paper n s) s) ≡ none = rw (e, o) in
-        λ i. record { name = name-is i; id = id-is i; peeled = w i }
-
-    entry-peeled : r .peeled ≡ suc size → suc size + n ≤ r .size
-        → entryOf n (itemOf paper n s) ≡ record { name = name; id = take n s; peeled = some peeled-id }
-    entry-peeled o l =
-        let k = sizeOf paper n s in
-        let inside : suc size + n ≤ k = omega (arith, size-good paper n s r e) in
-        let w : peeledIn n (recordOf paper n s) (take k s) ≡ some peeled-id = rw (e, o, part-of-front n (suc size) k s inside) in
-        λ i. record { name = name-is i; id = id-is i; peeled = w i }
-
-  peeled-inside : suc size + n ≤ size + peelLen paper n (drop size s)
-  unfolding peelLen
-  peeled-inside = omega arith
-
-  item-lines : isGood (recordOf paper n s) ≡ true → withoutCR (take (sizeOf paper n s) s) ≡ linesOf (entryOf n (itemOf paper n s))
-  item-lines g = go (view paper n s)
+  pub good-lines : (r : Record) → recordOf paper n s ≡ Good r → withoutCR (take (r .size) s) ≡ linesOf (entryOf n s r)
+  good-lines r e = go (view paper n s)
     where
-      go : View paper n s → withoutCR (take (sizeOf paper n s) s) ≡ linesOf (entryOf n (itemOf paper n s))
+      go : View paper n s → withoutCR (take (r .size) s) ≡ linesOf (entryOf n s r)
       go (is-bad f w q) = absurd (let z : _≡_ {A = ℕ} 0 1 = cc in omega arith)
       go (plain h c q) =
-          ap (λ k. withoutCR (take k s)) (size-good paper n s _ q)
-          ∙ first-line h
-          ∙ sym (append-nil (recordLine (take n s) name))
-          ∙ ap linesOf (sym (entry-plain _ q refl refl))
+          let w : r ≡ record { «name_len» = nameLen paper n s; peeled = 0; size = size } = cc in
+          rw (w, add-one n) (first-line h ∙ sym (append-nil (recordLine (take n s) name)))
       go (peeled h c p q) =
           let k = peelLen paper n (drop size s) in
-          ap (λ k. withoutCR (take k s)) (size-good paper n s _ q)
-          ∙ ap withoutCR (take-add size k s)
+          let w : r ≡ record { «name_len» = nameLen paper n s; peeled = suc size; size = size + k } = cc in
+          rw (w, add-one n)
+          (ap withoutCR (take-add size k s)
           ∙ without-append (take size s) (take k (drop size s))
           ∙ ap (λ l. l ++ withoutCR (take k (drop size s))) (first-line h)
-          ∙ ap (λ l. recordLine (take n s) name ++ l) (second-line c p)
-          ∙ ap linesOf (sym (entry-peeled _ q refl refl peeled-inside))
-
-  pub good-lines : (r : Record) → recordOf paper n s ≡ Good r → withoutCR (take (r .size) s) ≡ linesOf (entryOf n (itemOf paper n s))
-  good-lines r e = ap (λ k. withoutCR (take k s)) (sym (size-good paper n s r e)) ∙ item-lines (ap isGood e)
+          ∙ ap (λ l. recordLine (take n s) name ++ l) (second-line c p))
 
 -- ---- all items of some bytes
 
+abbrev pub PlainRecord : ℕ → Record → List ℕ → Type 0
+PlainRecord n r bytes = withoutCR bytes ≡ linesOf (entryOf n bytes r)
+
 abbrev pub AllPlain : ℕ → List Item → Type 0
-AllPlain n = Each (λ i. withoutCR (i .bytes) ≡ linesOf (entryOf n i))
+AllPlain n = Each (PlainRecord n)
 
 pub olds-plain : (n : ℕ) (s : List ℕ) → allGood (items paper n s) ≡ true → AllPlain n (items paper n s)
-olds-plain n = each-good n (λ i. withoutCR (i .bytes) ≡ linesOf (entryOf n i)) (item-lines n)
+olds-plain n = each-good n (PlainRecord n) (λ s r e. good-lines n s r e ∙ ap linesOf (sym (entry-inside paper n s r e)))

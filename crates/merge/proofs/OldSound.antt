@@ -6,24 +6,30 @@ use Prim.Native.Nat.{ℕ, zero, suc, _+_, _≤_, _<_}
 use native.Mathlib.Numerals.{add-one}
 use native.Mathlib.Omega.{arith}
 use lib.ListN.{getD, take, drop}
-use lib.Seq.{take-take, drop-drop, length-take-le, getD-take}
+use lib.Seq.{drop-drop, length-take-le, getD-take}
 use Rattle.parse.specs.Choice.{if}
 use Rattle.class.specs.Class.{paper, isHex}
 use Rattle.parse.specs.Run.{span}
 use Rattle.parse.proofs.Runs.{span-le}
-use Rattle.parse.proofs.Slices.{part-of-front}
-use Rattle.name.specs.Name.{validName}
+use Rattle.compare.specs.declared.order.Order.the-variants.{Less}
+use Rattle.compare.specs.Order.{orderOf}
 use Rattle.decode.specs.declared.reference.Record.{Record}
-use Rattle.decode.specs.declared.reference.Reading.the-variants.{Good}
-use Rattle.decode.specs.Record.{recordOf}
-use Rattle.decode.proofs.Records.{nameLen, headLen, peelLen, Head, Peel, View, is-bad, plain, peeled, view, fits}
-use Rattle.iter.specs.Items.{Item, sizeOf, itemOf, items, nameOf}
-use Rattle.checks.specs.Passes.{isGood, allGood, ascending}
-use Rattle.iter.proofs.Items.{size-good}
-use Rattle.iter.proofs.Turns.{item-name}
-use Rattle.merge.specs.Entry.{entryOf, entriesOf}
-use Rattle.merge.proofs.GoodItems.{Each, each-good}
+use Rattle.decode.specs.declared.reference.Reading.{Reading}
+use Rattle.decode.specs.declared.reference.Reading.the-variants.{Good, Bad}
+use Rattle.decode.specs.Entry.{entryOf}
+use Rattle.decode.specs.Record.{recordOf, decoded}
+use Rattle.decode.proofs.Entry.{entry-inside}
+use Rattle.decode.proofs.Records.{nameLen, headLen, peelLen, Peel, View, is-bad, plain, peeled, view}
+use Rattle.iter.specs.Entries.{entriesOf}
+use Rattle.iter.specs.Items.{Item, items, nameIn, nameOf}
+use Rattle.checks.specs.Passes.{allGood, ascending}
+use Rattle.merge.proofs.GoodItems.{OfGood, Each, each-good}
 use Rattle.merge.proofs.Entries.{Digits, Sound, AllSound, Ascends}
+
+-- no name is smaller than the empty one
+pub none-smaller : (last : List ℕ) → orderOf last [] ≡ Less → ⊥
+none-smaller [] h = let z : _≡_ {A = ℕ} 0 1 = cc in omega arith
+none-smaller (b ∷ last) h = let z : _≡_ {A = ℕ} 0 1 = cc in omega arith
 
 -- ---- ids that were read are digits
 
@@ -47,43 +53,51 @@ front-digits n s h =
       hex = λ i l. rw (getD-take n s i 0 l) (passes-at isHex s i (omega arith));
     }
 
--- ---- one item
+-- ---- one record
 
 module _ (n : ℕ) (s : List ℕ) where
-  id-digits : (r : Record) → recordOf paper n s ≡ Good r → n ≤ span isHex s → Digits n (take n (take (sizeOf paper n s) s))
-  id-digits r e h =
-      let k = size-good paper n s r e in
-      rw (take-take n (sizeOf paper n s) s (omega (arith, fits paper n s r e .holds))) (front-digits n s h)
-
-  name-valid : Head paper n s → (r : Record) → recordOf paper n s ≡ Good r → r .«name_len» ≡ nameLen paper n s → validName paper (nameOf n (itemOf paper n s)) ≡ true
-  name-valid h r e z = rw (item-name paper n s r e, z, add-one n) (h .name)
-
-  peeled-digits : (r : Record) → recordOf paper n s ≡ Good r → r .size ≡ headLen paper n s + peelLen paper n (drop (headLen paper n s) s)
-      → Peel paper n (drop (headLen paper n s) s) → Digits n (take n (drop (suc (headLen paper n s)) (take (sizeOf paper n s) s)))
-  unfolding peelLen
-  peeled-digits r e z p =
+  peeled-digits : Peel paper n (drop (headLen paper n s) s) → Digits n (take n (drop (suc (headLen paper n s)) s))
+  peeled-digits p =
       let k = headLen paper n s in
       let d : drop 1 (drop k s) ≡ drop (suc k) s = rw (add-one k) at (drop-drop 1 k s) in
-      rw (part-of-front n (suc k) (sizeOf paper n s) s (omega (arith, size-good paper n s r e)), ← d) (front-digits n (drop 1 (drop k s)) (p .id))
+      rw (← d) (front-digits n (drop 1 (drop k s)) (p .id))
 
-  item-sound : isGood (recordOf paper n s) ≡ true → Sound n (entryOf n (itemOf paper n s))
-  item-sound g = go (view paper n s)
+  record-sound : (r : Record) → recordOf paper n s ≡ Good r → Sound n (entryOf n s r)
+  record-sound r e = go (view paper n s)
     where
-      go : View paper n s → Sound n (entryOf n (itemOf paper n s))
+      go : View paper n s → Sound n (entryOf n s r)
       go (is-bad f w q) = absurd (let z : _≡_ {A = ℕ} 0 1 = cc in omega arith)
-      go (plain h c q) = record { id = id-digits _ q (h .id); name = name-valid h _ q refl; peeled = rw q tt }
-      go (peeled h c p q) = record { id = id-digits _ q (h .id); name = name-valid h _ q refl; peeled = rw q (peeled-digits _ q refl p) }
+      go (plain h c q) =
+          let w : r ≡ record { «name_len» = nameLen paper n s; peeled = 0; size = headLen paper n s } = cc in
+          rw w (record { id = front-digits n s (h .id); name = rw (add-one n) (h .name); peeled = tt })
+      go (peeled h c p q) =
+          let w : r ≡ record { «name_len» = nameLen paper n s; peeled = suc (headLen paper n s); size = headLen paper n s + peelLen paper n (drop (headLen paper n s) s) } = cc in
+          rw w (record { id = front-digits n s (h .id); name = rw (add-one n) (h .name); peeled = peeled-digits p })
 
 -- ---- all items of some bytes
 
 module _ (n : ℕ) where
-  all-sound : (l : List Item) → Each (λ i. Sound n (entryOf n i)) l → AllSound n (entriesOf n l)
+  abbrev SoundRecord : Record → List ℕ → Type 0
+  SoundRecord r bytes = Sound n (entryOf n bytes r)
+
+  all-sound : (l : List Item) → Each SoundRecord l → AllSound n (entriesOf n l)
   all-sound [] e = tt
-  all-sound (i ∷ l) e = (e .0, all-sound l (e .1))
+  all-sound (i ∷ l) e = go (i .what) (e .0) (all-sound l (e .1))
+    where
+      go : (w : Reading) → OfGood SoundRecord w (i .bytes) → AllSound n (entriesOf n l) → AllSound n (decoded w (λ r. entryOf n (i .bytes) r ∷ entriesOf n l) (λ f. entriesOf n l))
+      go (Good r) first rest = (first, rest)
+      go (Bad f) first rest = rest
 
   pub olds-sound : (s : List ℕ) → allGood (items paper n s) ≡ true → AllSound n (entriesOf n (items paper n s))
-  olds-sound s g = all-sound (items paper n s) (each-good n (λ i. Sound n (entryOf n i)) (item-sound n) s g)
+  olds-sound s g =
+      all-sound (items paper n s) (each-good n SoundRecord (λ t r e. rw (entry-inside paper n t r e) (record-sound n t r e)) s g)
 
+  -- an error has no name, and a name that is greater than another is not empty
   pub olds-ascend : (last : List ℕ) (l : List Item) → ascending n last l → Ascends last (entriesOf n l)
   olds-ascend last [] u = tt
-  olds-ascend last (i ∷ l) u = (u .0, olds-ascend (nameOf n i) l (u .1))
+  olds-ascend last (i ∷ l) u = go (i .what) (u .0) (olds-ascend (nameOf n i) l (u .1))
+    where
+      go : (w : Reading) → orderOf last (nameIn n w (i .bytes)) ≡ Less → Ascends (nameIn n w (i .bytes)) (entriesOf n l)
+          → Ascends last (decoded w (λ r. entryOf n (i .bytes) r ∷ entriesOf n l) (λ f. entriesOf n l))
+      go (Good r) up rest = (up, rest)
+      go (Bad f) up rest = absurd (none-smaller last up)

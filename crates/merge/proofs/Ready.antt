@@ -1,4 +1,4 @@
--- The index once the edit list is ready, and what comes of a list and of a header.
+-- The index once the edit list is ready, and what comes of a header.
 use mathlib.Core.Path.{_≡_, refl, ap, _∙_}
 use mathlib.Core.Bool.{Bool, true, false}
 use mathlib.Core.List.{List, _++_}
@@ -13,15 +13,15 @@ use Rattle.parse.specs.Limit.{overLimit}
 use Rattle.header.specs.declared.Header.{Header}
 use Rattle.header.specs.declared.Opened.the-variants as opened
 use Rattle.header.specs.Header.{headerOf}
+use Rattle.iter.specs.Entries.{entriesOf}
 use Rattle.checks.specs.Check.{judgeBody, checkOf}
 use Rattle.iter.specs.Items.{items}
-use Rattle.edits.specs.declared.list.Prepared.{Prepared}
 use Rattle.edits.specs.declared.list.Prepared.the-variants.{Ready, TooLarge}
-use Rattle.edits.specs.List.{editsOf, placesOf, inOrder, preparedBy, preparedOf, indexBy, indexAfter}
+use Rattle.edits.specs.List.{editsOf, placesOf, inOrder, preparedBy, preparedOf, indexAfter}
 use Rattle.checks.specs.declared.Refusal.the-variants.{BadHeader}
 use Rattle.merge.specs.declared.Merged.the-variants.{Refused}
-use Rattle.merge.specs.Entry.{Override, entriesOf}
-use Rattle.merge.specs.Merge.{oldEntries, judgedBy, judged, listed, mergeOf}
+use Rattle.merge.specs.Override.{Override}
+use Rattle.merge.specs.Merge.{oldEntries, judgedBy, judged}
 use Rattle.merge.proofs.EditsRise.{Readied, readied}
 
 -- ---- the index
@@ -44,21 +44,11 @@ module _ (byte : Classes) (n : ℕ) (list index : List ℕ) (k : ℕ) (e : prepa
   index-is : indexAfter byte n list index ≡ places ++ drop (length (placesOf (editsOf byte n list))) index
   unfolding indexAfter
   index-is =
-      ap (λ t. if t index (indexBy list index (editsOf byte n list))) not-large
-      ∙ ap (indexBy list index) (ready .listed)
-      ∙ ap (λ t. if t index (places ++ drop (length (placesOf (editsOf byte n list))) index))
-      (le-ltb (length index) (length (placesOf (editsOf byte n list))) (omega (arith, ready .count, ready .room-enough)))
+      rw (not-large, le-ltb (length index) (length (placesOf (editsOf byte n list))) (omega (arith, ready .count, ready .room-enough)))
 
   -- its first entries are the edits' places in name order
   pub front-is : take k (indexAfter byte n list index) ≡ places
   front-is = ap (take k) index-is ∙ take-at places (drop (length (placesOf (editsOf byte n list))) index) k (ready .in-order)
-
--- ---- by what was found of the list
-
-module _ (byte : Classes) (n : ℕ) (file list : List ℕ) (indexRoom room : ℕ) where
-  pub merge-using-list : (p : Prepared) → preparedOf byte n list indexRoom ≡ p → mergeOf byte n file list indexRoom room ≡ listed byte n file list room p
-  unfolding mergeOf
-  merge-using-list p e = ap (listed byte n file list room) e
 
 -- ---- by what was found of the header
 

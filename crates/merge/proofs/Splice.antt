@@ -14,7 +14,7 @@ use Rattle.put.specs.Cr.{withoutCR}
 use Rattle.put.proofs.Laws.{Puts}
 use Rattle.lines.specs.Lines.{recordLine, peeledLine, linesOfAll}
 use Rattle.lines.proofs.Lines.{three-put}
-use Rattle.merge.specs.Entry.{newOf, editAt}
+use Rattle.merge.specs.Override.{newOf, editAt}
 use Rattle.merge.specs.Splice.{spliced}
 
 -- the same text by another name

@@ -149,7 +149,7 @@ cases =
     -- no old file, ids of 64 digits: 46 bytes, name plus 66, and 66 more with a peeled line
     ∷ done 2 [] (updatePeeled 97 (replicate 32 68) (replicate 32 51)) (7 ∷ []) (0 ∷ []) 186
     (headerLine ++ (refLine 64 52 97 lf ++ peelLine 64 51 lf))
-    -- 1, before all else: the edit list has no such edit kind either
+    -- 1 comes first, though the edit list is malformed, too
     ∷ refused 3 [] (3 ∷ []) (7 ∷ []) (7 ∷ []) UnknownKind 1
     -- 7 and 8 with the edit's start, before the index is seen to be short
     ∷ refused 1 [] (delete 97 ++ 3 ∷ []) [] [] (BadList (BadEdit 10 Malformed)) 7
@@ -173,13 +173,13 @@ cases =
 
 -- ---- the numbers of the two outcomes that only long inputs reach: 4,097 edits, and more than 1,073,741,824 bytes
 
-pub record Numbered : Type 0 where
+pub record LongInput : Type 0 where
   pub outcome : Merged
   pub number : ℕ
 
-abbrev pub numbered : List Numbered → List Numbered
+abbrev pub numbered : List LongInput → List LongInput
 numbered [] = []
 numbered (c ∷ l) = record { outcome = c .outcome; number = mergeNumber (c .outcome) } ∷ numbered l
 
-abbrev pub longInputs : List Numbered
+abbrev pub longInputs : List LongInput
 longInputs = record { outcome = BadList (TooMany 0); number = 9 } ∷ record { outcome = TooLarge; number = 17 } ∷ []

@@ -1,4 +1,4 @@
-pub mod Entry
 pub mod Examples
 pub mod Merge
+pub mod Override
 pub mod Splice

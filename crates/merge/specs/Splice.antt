@@ -14,7 +14,7 @@ use Rattle.put.specs.Cr.{withoutCR}
 use Rattle.lines.specs.Lines.{linesOfAll}
 use Rattle.merge.specs.declared.Merged.{Merged}
 use Rattle.merge.specs.declared.Merged.the-variants.{Done, NothingToDo, NoRecord, ShortOutput}
-use Rattle.merge.specs.Entry.{editAt}
+use Rattle.merge.specs.Override.{editAt}
 
 -- ---- the new file by the marks: old bytes without their CRs up to where an edit's run starts; the edit's lines; and on from where
 -- the run ends

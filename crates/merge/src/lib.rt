@@ -7,12 +7,13 @@ ghost use mathlib.Core.Path.{_≡_};
 ghost use Prim.Native.Nat.{_≤_};
 ghost use lib.ListN.{length, drop};
 ghost use Rattle.class.specs.Class.{paper, classTable};
+ghost use Rattle.iter.specs.Entries.{entriesOf};
 ghost use Rattle.checks.specs.Check.{judgeBody};
 ghost use Rattle.iter.specs.Items.{items};
 ghost use Rattle.edits.specs.List.{indexAfter};
 ghost use Rattle.lines.specs.Lines.{headerLine};
-ghost use Rattle.merge.specs.Entry.{entriesOf, editsAt};
-ghost use Rattle.merge.specs.Merge.{mergeAnswer, outputAfter, indexAnswer, mergeOf, outputBy, newFile, oldEntries, editsInOrder, judged, judgedBy};
+ghost use Rattle.merge.specs.Override.{editsAt};
+ghost use Rattle.merge.specs.Merge.{mergeAnswer, outputAfter, indexAnswer, mergeOf, outputOf, outputBy, newFile, oldEntries, judged, judgedBy};
 ghost use Rattle.runs.specs.Runs.{isStill};
 ghost use Rattle.merge.specs.Splice.{splicedFile, splicedAnswer, Rising};
 use checks::Refusal;
@@ -49,31 +50,28 @@ pub fn merge(kind: u32, old: &[u8], list: &[u8], index: &mut [u32], out: &mut [u
     ensures { λ _. ⌜ now (out .exit) ≡ outputAfter kind (now (old .entry)) (now (list .entry)) (length (now (index .entry))) (now (out .entry)) ⌝ }
 {
     match parse::limit::admit(kind, old.len(), list.len()) {
-        Admission::Digits(n) => {
-            let t = class::table();
-            merge_using(&t, n, old, list, index, out)
-        }
+        Admission::Digits(n) => merge_with_digits(n, old, list, index, out),
         Admission::UnknownKind => Merged::UnknownKind,
         Admission::TooLarge => Merged::TooLarge,
     }
 }
 
-// The same for ids of n digits, using the table of byte classes, for inputs within the size limit.
-fn merge_using(
-    t: &[u8; 256],
+// The same for ids of n digits, without a kind; an old file of any size is taken. The table of byte classes is not lent: that a CR stands only in line
+// ends, and old lines can be copied without their CRs, is true of the real table alone.
+pub fn merge_with_digits(
     n: usize,
     old: &[u8],
     list: &[u8],
     index: &mut [u32],
     out: &mut [u8],
 ) -> Merged
-    requires { ⌜ (now t ≡ classTable) × (n ≤ 64) × (length (now old) ≤ 1073741824) × (length (now list) ≤ 1073741824) ⌝ }
     ensures { λ r. ⌜ r ≡ mergeOf paper n (now (old .entry)) (now (list .entry)) (length (now (index .entry))) (length (now (out .entry))) ⌝ }
     ensures { λ _. ⌜ now (index .exit) ≡ indexAfter paper n (now (list .entry)) (now (index .entry)) ⌝ }
-    ensures { λ r. ⌜ now (out .exit) ≡ outputBy (newFile (oldEntries paper n (now (old .entry))) (editsInOrder paper n (now (old .entry)) (now (list .entry)))) (now (out .entry)) r ⌝ }
+    ensures { λ _. ⌜ now (out .exit) ≡ outputOf paper n (now (old .entry)) (now (list .entry)) (length (now (index .entry))) (now (out .entry)) ⌝ }
 {
-    match edits::list::prepare(t, n, list, index) {
-        Prepared::Ready(k) => with_edits(t, n, old, list, &index[0..k], out),
+    let t = class::table();
+    match edits::list::prepare(&t, n, list, index) {
+        Prepared::Ready(k) => with_edits(&t, n, old, list, &index[0..k], out),
         Prepared::BadList(why) => Merged::BadList(why),
         Prepared::ShortIndex => Merged::ShortIndex,
         Prepared::Twins(place) => Merged::Twins(place),
@@ -90,7 +88,7 @@ fn with_edits(
     index: &[u32],
     out: &mut [u8],
 ) -> Merged
-    requires { ⌜ (now t ≡ classTable) × (n ≤ 64) × (length (now old) ≤ 1073741824) × (length (now list) ≤ 1073741824) × (length (now index) ≤ 4096) × Rising (now list) (now index) ⌝ }
+    requires { ⌜ (now t ≡ classTable) × (length (now index) ≤ 4096) × Rising (now list) (now index) ⌝ }
     ensures { λ r. ⌜ r ≡ judged paper n (now (old .entry)) (editsAt n (now (list .entry)) (now (index .entry))) (length (now (out .entry))) ⌝ }
     ensures { λ r. ⌜ now (out .exit) ≡ outputBy (newFile (oldEntries paper n (now (old .entry))) (editsAt n (now (list .entry)) (now (index .entry)))) (now (out .entry)) r ⌝ }
 {
@@ -110,7 +108,7 @@ fn behind_header(
     index: &[u32],
     out: &mut [u8],
 ) -> Merged
-    requires { ⌜ (now t ≡ classTable) × (n ≤ 64) × (length (now old) ≤ 1073741824) × (length (now list) ≤ 1073741824) × (length (now index) ≤ 4096) × Rising (now list) (now index) ⌝ }
+    requires { ⌜ (now t ≡ classTable) × (length (now index) ≤ 4096) × Rising (now list) (now index) ⌝ }
     ensures { λ r. ⌜ r ≡ judgedBy (entriesOf n (items paper n (drop body (now (old .entry))))) (editsAt n (now (list .entry)) (now (index .entry))) (length (now (out .entry))) (judgeBody paper n (now (old .entry)) body) ⌝ }
     ensures { λ r. ⌜ now (out .exit) ≡ outputBy (newFile (entriesOf n (items paper n (drop body (now (old .entry))))) (editsAt n (now (list .entry)) (now (index .entry)))) (now (out .entry)) r ⌝ }
 {

@@ -3,7 +3,7 @@ ghost use mathlib.Core.Path.{_≡_};
 ghost use lib.ListN.{length};
 ghost use Rattle.lines.specs.Lines.{linesOfAll};
 ghost use Rattle.put.specs.Put.{over, placeBehind};
-ghost use Rattle.merge.specs.Entry.{editAt};
+ghost use Rattle.merge.specs.Override.{editAt};
 ghost use Rattle.merge.specs.Splice.{splicedFile};
 
 // Writes as far as there is room. Gives the length of the whole new file even where it has no room, so that a call with an empty output measures it.

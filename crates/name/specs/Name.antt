@@ -1,5 +1,5 @@
 -- The name of a reference: each rule of Git's page (git-check-ref-format) under its sentence, and the whole.
-use mathlib.Core.Bool.{Bool, true, false, not, _&&_, _||_}
+use mathlib.Core.Bool.{Bool, not, _&&_, _||_}
 use mathlib.Core.List.{List, [], _∷_}
 use Prim.Native.Nat.{ℕ}
 use Rattle.class.specs.Class.{Classes}
@@ -66,7 +66,7 @@ noAtBrace s = not (contains atBrace s)
 unfoldable pub notTheLoneAt : List ℕ → Bool
 notTheLoneAt s = not (same at s)
 
--- a valid name keeps every rule
+-- a valid name keeps every rule above. Of rule 1's `.lock` that is what document 01 asks, so `a.lock/b` is valid
 unfoldable pub validName : Classes → List ℕ → Bool
 validName byte s =
     noComponentBeginsWithDot s

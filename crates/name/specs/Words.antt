@@ -1,5 +1,5 @@
 -- Words in a byte string: standing in it, ending it, beginning one of its components.
-use mathlib.Core.Bool.{Bool, true, false, _&&_, _||_}
+use mathlib.Core.Bool.{Bool, true, _&&_, _||_}
 use mathlib.Core.List.{List, [], _∷_}
 use Prim.Native.Nat.{ℕ}
 use Rattle.compare.specs.Prefix.{begins, same}

@@ -1,4 +1,4 @@
-// Git's rules for the name of a reference, in one pass over the table of byte classes.
+// Git's rules for the name of a reference, in one pass over the name, by the table of byte classes.
 ghost use mathlib.Core.Path.{_≡_};
 ghost use mathlib.Core.Bool.{not, _&&_};
 ghost use mathlib.Core.List.{[], _∷_};

@@ -1,69 +1,91 @@
--- Behind the header of a file that passes the check, a lookup tells the entry of the name.
+-- In a body whose items pass the check, a lookup tells the entry of the name.
 use mathlib.Core.Path.{_≡_, refl, sym, ap, _∙_}
 use mathlib.Core.Bool.{Bool, true, false}
 use mathlib.Core.List.{List, [], _∷_, _++_}
 use mathlib.Core.Option.{Option, none, some}
 use Prim.Native.Nat.{ℕ, _<_}
 use native.Mathlib.Omega.{arith}
-use lib.ListN.{length, drop}
+use lib.ListN.{length}
 use Rattle.parse.specs.Choice.{if}
 use Rattle.class.specs.Class.{paper}
-use Rattle.compare.proofs.Orders.{order-refl}
 use Rattle.name.specs.Name.{validName}
-use Rattle.header.specs.declared.Header.{Header}
-use Rattle.header.specs.declared.Opened.the-variants as opened
-use Rattle.header.specs.Header.{headerOf}
-use Rattle.checks.specs.declared.Verdict.the-variants.{Clean}
+use Rattle.decode.specs.declared.reference.Record.{Record}
+use Rattle.decode.specs.declared.reference.Reading.{Reading}
+use Rattle.decode.specs.declared.reference.Reading.the-variants.{Good, Bad}
+use Rattle.decode.specs.Entry.{Entry, entryOf}
+use Rattle.decode.specs.Record.{decoded}
+use Rattle.iter.specs.Entries.{entriesOf}
 use Rattle.iter.specs.Items.{Item, items, bytesOf, nameOf}
-use Rattle.checks.specs.Check.{checkOf}
 use Rattle.checks.specs.Passes.{Passes}
 use Rattle.iter.specs.Stands.{Stands}
-use Rattle.checks.proofs.CheckMeans.{check-means}
-use Rattle.iter.proofs.Each.{each}
+use Rattle.iter.proofs.Entries.{stands-as}
 use Rattle.find.specs.Present.{FoundExactly}
-use Rattle.find.proofs.Found.{good-record, found-exactly}
-use Rattle.find.proofs.ItemAt.{stands-good}
-use Rattle.places.specs.Order.{sameName}
-use Rattle.lines.specs.Lines.{Entry}
-use Rattle.merge.specs.Entry.{entryOf, entriesOf}
+use Rattle.find.proofs.Found.{found-exactly}
+use Rattle.compare.specs.Prefix.{same}
 use Rattle.one_merge.specs.OneMerge.{entryNamed, Shows, Tells}
-use Rattle.merge.proofs.InOrder.{same-is}
+use Rattle.compare.proofs.Prefixes.{same-is, same-self}
 
 -- ---- the entry of a name among some items
 
 module _ (n : ℕ) (name : List ℕ) where
-  -- one of some items has the name, and it is the entry
+  -- one of some items is a record of the name, and says the entry
   record HasEntry (l : List Item) (e : Entry) : Type 0 where
     before : List Item
     it : Item
     after : List Item
     all : l ≡ before ++ it ∷ after
+    r : Record
+    reads : it .what ≡ Good r
     name-is : nameOf n it ≡ name
-    is : entryOf n it ≡ e
+    is : entryOf n (it .bytes) r ≡ e
 
   some-named : (l : List Item) {e : Entry} → entryNamed name (entriesOf n l) ≡ some e → HasEntry l e
   some-named [] h = absurd (let z : _≡_ {A = ℕ} 0 1 = cc in omega arith)
-  some-named (i ∷ l) {e} h = go (sameName (nameOf n i) name) refl h (some-named l)
+  some-named (i ∷ l) {e} h = first (i .what) refl h (some-named l)
     where
-      go : (t : Bool) → sameName (nameOf n i) name ≡ t → if t (some (entryOf n i)) (entryNamed name (entriesOf n l)) ≡ some e
-          → (entryNamed name (entriesOf n l) ≡ some e → HasEntry l e) → HasEntry (i ∷ l) e
-      go true q z ih = record { before = []; it = i; after = l; all = refl; name-is = same-is (nameOf n i) name q; is = cc }
-      go false q z ih =
-          let x = ih z in
-          record { before = i ∷ x .before; it = x .it; after = x .after; all = ap (λ (m : List Item). i ∷ m) (x .all); name-is = x .name-is; is = x .is }
+      behind : HasEntry l e → HasEntry (i ∷ l) e
+      behind x =
+          record {
+            before = i ∷ x .before;
+            it = x .it;
+            after = x .after;
+            all = ap (λ (m : List Item). i ∷ m) (x .all);
+            r = x .r;
+            reads = x .reads;
+            name-is = x .name-is;
+            is = x .is;
+          }
 
-  none-named : (before : List Item) (it : Item) (after : List Item) → entryNamed name (entriesOf n (before ++ it ∷ after)) ≡ none
-      → nameOf n it ≡ name → ⊥
-  none-named [] it after h e =
-      let f = rw (e, order-refl name) at h in
+      go : (r : Record) → i .what ≡ Good r → (t : Bool) → same (entryOf n (i .bytes) r .name) name ≡ t
+          → if t (some (entryOf n (i .bytes) r)) (entryNamed name (entriesOf n l)) ≡ some e
+          → (entryNamed name (entriesOf n l) ≡ some e → HasEntry l e) → HasEntry (i ∷ l) e
+      go r w true q z ih =
+          record { before = []; it = i; after = l; all = refl; r = r; reads = w; name-is = rw w (sym (same-is (entryOf n (i .bytes) r .name) name q)); is = cc }
+      go r w false q z ih = behind (ih z)
+
+      first : (w : Reading) → i .what ≡ w → entryNamed name (decoded w (λ r. entryOf n (i .bytes) r ∷ entriesOf n l) (λ f. entriesOf n l)) ≡ some e
+          → (entryNamed name (entriesOf n l) ≡ some e → HasEntry l e) → HasEntry (i ∷ l) e
+      first (Good r) w h ih = go r w (same (entryOf n (i .bytes) r .name) name) refl h ih
+      first (Bad f) w h ih = behind (ih h)
+
+  none-named : (before : List Item) (it : Item) (after : List Item) (r : Record) → it .what ≡ Good r
+      → entryNamed name (entriesOf n (before ++ it ∷ after)) ≡ none → nameOf n it ≡ name → ⊥
+  none-named [] it after r w h e =
+      let f = rw (w, rw w at e, same-self name) at h in
       let z : _≡_ {A = ℕ} 0 1 = cc in
       omega arith
-  none-named (b ∷ before) it after h e = go (sameName (nameOf n b) name) h (none-named before it after)
+  none-named (b ∷ before) it after r w h e = first (b .what) h (none-named before it after r w)
     where
-      go : (t : Bool) → if t (some (entryOf n b)) (entryNamed name (entriesOf n (before ++ it ∷ after))) ≡ none
-          → (entryNamed name (entriesOf n (before ++ it ∷ after)) ≡ none → nameOf n it ≡ name → ⊥) → ⊥
-      go true z ih = let w : _≡_ {A = ℕ} 0 1 = cc in omega arith
-      go false z ih = ih z e
+      rest : List Entry
+      rest = entriesOf n (before ++ it ∷ after)
+
+      go : (t : Bool) (x : Entry) → if t (some x) (entryNamed name rest) ≡ none → (entryNamed name rest ≡ none → nameOf n it ≡ name → ⊥) → ⊥
+      go true x z ih = let w : _≡_ {A = ℕ} 0 1 = cc in omega arith
+      go false x z ih = ih z e
+
+      first : (w : Reading) → entryNamed name (decoded w (λ r. entryOf n (b .bytes) r ∷ rest) (λ f. rest)) ≡ none → (entryNamed name rest ≡ none → nameOf n it ≡ name → ⊥) → ⊥
+      first (Good x) z ih = go (same (entryOf n (b .bytes) x .name) name) (entryOf n (b .bytes) x) z ih
+      first (Bad f) z ih = ih z e
 
 -- ---- in a body that passes the check
 
@@ -83,27 +105,16 @@ module _
     shows e x =
         let place = length (bytesOf (x .before)) in
         let stands : Stands paper n s place (x .it) = record { before = x .before; after = x .after; all = x .all; here = refl } in
-        let (r, good) = good-record (x .it .what) (stands-good paper n s (passes .good) stands) in
         record {
           place = place;
-          it = r;
-          found = exact .found place r (record { it = x .it; stands = stands; good = good; name-is = x .name-is });
-          is = ap (entryOf n) (sym (each n s place (x .it) stands .read)) ∙ x .is;
+          it = x .r;
+          found = exact .found place (x .r) (record { it = x .it; stands = stands; good = x .reads; name-is = x .name-is });
+          is = sym (stands-as n s stands (x .reads) .1) ∙ x .is;
         }
 
     pub body-tells : Tells n s name (entryNamed name (entriesOf n (items paper n s)))
     body-tells = go (entryNamed name (entriesOf n (items paper n s))) refl
       where
         go : (o : Option Entry) → entryNamed name (entriesOf n (items paper n s)) ≡ o → Tells n s name o
-        go none h = exact .absent (λ place r m. none-named n name (m .stands .before) (m .it) (m .stands .after) (rw (m .stands .all) at h) (m .name-is))
+        go none h = exact .absent (λ place r m. none-named n name (m .stands .before) (m .it) (m .stands .after) r (m .good) (rw (m .stands .all) at h) (m .name-is))
         go (some e) h = shows e (some-named n name (items paper n s) h)
-
--- ---- in a file that passes the check, behind its header
-
-pub checked-tells : (n : ℕ) → 0 < n → (file : List ℕ) (count : ℕ) (h : Header) → checkOf paper n file ≡ Clean count → headerOf paper file ≡ opened.Header h
-    → (name : List ℕ) → validName paper name ≡ true
-    → Tells n (drop (h .body) file) name (entryNamed name (entriesOf n (items paper n (drop (h .body) file))))
-checked-tells n digits file count h clean reads name valid =
-    let b = check-means paper n file (Clean count) .0 clean in
-    let z : b .header ≡ h = cc (b .reads) in
-    body-tells n digits (drop (h .body) file) count (rw z at (b .holds)) name valid

@@ -5,6 +5,8 @@ use Prim.Native.Nat.{ℕ, _<_}
 use native.Mathlib.Omega.{arith}
 use lib.ListN.{drop}
 use Rattle.class.specs.Class.{paper}
+use Rattle.decode.specs.Entry.{Entry}
+use Rattle.iter.specs.Entries.{entriesOf}
 use Rattle.checks.specs.declared.Verdict.{Verdict}
 use Rattle.checks.specs.declared.Verdict.the-variants as verdict
 use Rattle.checks.specs.Check.{checkOf}
@@ -16,8 +18,8 @@ use Rattle.edits.specs.declared.list.Prepared.{Prepared}
 use Rattle.edits.specs.declared.list.Prepared.the-variants as prepared
 use Rattle.edits.specs.List.{editsOf, placesOf, preparedOf}
 use Rattle.merge.specs.declared.Merged.the-variants.{Done}
-use Rattle.lines.specs.Lines.{Entry, linesOfAll}
-use Rattle.merge.specs.Entry.{Override, entriesOf}
+use Rattle.lines.specs.Lines.{linesOfAll}
+use Rattle.merge.specs.Override.{Override}
 use Rattle.merge.specs.Merge.{overridden, newFile, oldEntries, editsInOrder, judgedBy, judged, listed, mergeOf}
 use Rattle.one_merge.specs.OneMerge.{NewFileMeans, OneMerge}
 use Rattle.merge.proofs.EditsRise.{readied, in-order-rises}

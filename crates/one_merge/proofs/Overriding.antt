@@ -1,5 +1,5 @@
 -- Old records overridden by edits: what is left is sound, its names rise, and each name has what its edit left, or else what it had.
-use mathlib.Core.Path.{_≡_, refl, sym, ap, _∙_, subst}
+use mathlib.Core.Path.{_≡_, refl, sym, _∙_, subst}
 use mathlib.Core.Bool.{Bool, true, false}
 use mathlib.Core.List.{List, [], _∷_, _++_}
 use mathlib.Core.Option.{Option, none, some}
@@ -9,14 +9,15 @@ use Rattle.compare.specs.declared.order.Order.the-variants.{Less, Equal, Greate
 use Rattle.parse.specs.Choice.{if}
 use Rattle.compare.specs.Order.{orderOf}
 use Rattle.compare.proofs.Orders.{order-equal, greater-flip, less-trans}
-use Rattle.places.specs.Order.{sameName}
-use Rattle.lines.specs.Lines.{Entry}
-use Rattle.merge.specs.Entry.{Override}
+use Rattle.decode.specs.Entry.{Entry}
+use Rattle.compare.specs.Prefix.{same}
+use Rattle.compare.proofs.Prefixes.{same-is}
+use Rattle.merge.specs.Override.{Override}
 use Rattle.compare.specs.Order.{byOrder}
 use Rattle.merge.specs.Merge.{overridden}
 use Rattle.one_merge.specs.OneMerge.{entryNamed, leftBy, afterEdits}
 use Rattle.merge.proofs.Entries.{Sound, AllSound, Ascends, AllOf, Rises}
-use Rattle.merge.proofs.InOrder.{same-greater, same-is, lower}
+use Rattle.merge.proofs.InOrder.{same-greater, lower}
 
 -- ---- what begins behind a name holds no record and no edit of it
 
@@ -47,11 +48,11 @@ module _ (n : ℕ) where
     put-ascends (e ∷ l) a last h u = rw (a .2, a .0) (h, u)
 
     put-named : (new : List Entry) → AllOf n name new → Ascends name rest → (other : List ℕ)
-        → entryNamed other (new ++ rest) ≡ if (sameName name other) (leftBy new) (entryNamed other rest)
-    put-named [] a u other = go (sameName name other) refl
+        → entryNamed other (new ++ rest) ≡ if (same name other) (leftBy new) (entryNamed other rest)
+    put-named [] a u other = go (same name other) refl
       where
-        go : (t : Bool) → sameName name other ≡ t → entryNamed other rest ≡ if t none (entryNamed other rest)
-        go true e = none-named other rest (subst (λ (k : List ℕ). Ascends k rest) (same-is name other e) u)
+        go : (t : Bool) → same name other ≡ t → entryNamed other rest ≡ if t none (entryNamed other rest)
+        go true e = none-named other rest (subst (λ (k : List ℕ). Ascends k rest) (sym (same-is name other e)) u)
         go false e = refl
     put-named (e ∷ l) a u other = rw (a .2, a .0)
 
@@ -74,9 +75,9 @@ module _ (n : ℕ) where
 
     -- it is about the first
     replace : (r : Entry) (rs : List Entry) → r .name ≡ e .name → Mixed (e .name) rs es l → Mixed last (r ∷ rs) (e ∷ es) (e .new ++ l)
-    replace r rs same-name m = record { sound = add rs m .sound; up = add rs m .up; named = λ name. add rs m .named name ∙ go name (sameName (e .name) name) refl }
+    replace r rs same-name m = record { sound = add rs m .sound; up = add rs m .up; named = λ name. add rs m .named name ∙ go name (same (e .name) name) refl }
       where
-        go : (name : List ℕ) (t : Bool) → sameName (e .name) name ≡ t
+        go : (name : List ℕ) (t : Bool) → same (e .name) name ≡ t
             → if t (leftBy (e .new)) (afterEdits name es (entryNamed name rs)) ≡ if t (leftBy (e .new)) (afterEdits name es (entryNamed name (r ∷ rs)))
         go name true q = refl
         go name false q = rw (same-name, q)
@@ -84,11 +85,11 @@ module _ (n : ℕ) where
   -- the first old record is about no edit
   keep : (last : List ℕ) (r : Entry) (rs : List Entry) (edits : List Override) (l : List Entry) → orderOf last (r .name) ≡ Less → Sound n r
       → Rises n (r .name) edits → Mixed (r .name) rs edits l → Mixed last (r ∷ rs) edits (r ∷ l)
-  keep last r rs edits l above s v m = record { sound = (s, m .sound); up = (above, m .up); named = λ name. go name (sameName (r .name) name) refl }
+  keep last r rs edits l above s v m = record { sound = (s, m .sound); up = (above, m .up); named = λ name. go name (same (r .name) name) refl }
     where
-      go : (name : List ℕ) (t : Bool) → sameName (r .name) name ≡ t
+      go : (name : List ℕ) (t : Bool) → same (r .name) name ≡ t
           → if t (some r) (entryNamed name l) ≡ afterEdits name edits (if t (some r) (entryNamed name rs))
-      go name true q = sym (none-edited name edits (some r) (subst (λ (k : List ℕ). Rises n k edits) (same-is (r .name) name q) v))
+      go name true q = sym (none-edited name edits (some r) (subst (λ (k : List ℕ). Rises n k edits) (sym (same-is (r .name) name q)) v))
       go name false q = m .named name
 
   pub mixed : (last : List ℕ) (olds : List Entry) (edits : List Override) → AllSound n olds → Ascends last olds → Rises n last edits

@@ -12,11 +12,11 @@ use Rattle.class.specs.Class.{paper}
 use Rattle.name.specs.Name.{validName}
 use Rattle.decode.specs.declared.reference.Record.{Record}
 use Rattle.decode.specs.declared.reference.Reading.the-variants.{Good}
+use Rattle.decode.specs.Entry.{Entry, peeledId, entryOf}
 use Rattle.decode.specs.Record.{recordOf}
 use Rattle.decode.proofs.Records.{good-alike, headLen, peelLen, Peel, plain-is, peeled-is}
 use Rattle.iter.specs.Items.{Item, nameOf}
-use Rattle.lines.specs.Lines.{Entry, recordLine, peeledLine, peeledLines, linesOf}
-use Rattle.merge.specs.Entry.{peeledAt, entryOf}
+use Rattle.lines.specs.Lines.{recordLine, peeledLine, peeledLines, linesOf}
 use Rattle.merge.proofs.Entries.{Digits, DigitsIf, Sound}
 use Rattle.one_merge.proofs.WrittenLines.{behind, lineThen, name-len, line-head, head-len, behind-head, byte-behind, line-peel, peel-len}
 
@@ -112,10 +112,10 @@ module _ (n : ℕ) (e : Entry) (s : Sound n e) where
   abbrev first : List ℕ
   first = recordLine (e .id) (e .name)
 
-  peeled-back : (o : Option (List ℕ)) → DigitsIf n o → peeledAt n (first ++ peeledLines o) (peeledPlace (length first) o) ≡ o
+  peeled-back : (o : Option (List ℕ)) → DigitsIf n o → peeledId n (first ++ peeledLines o) (peeledPlace (length first) o) ≡ o
   peeled-back none d = refl
   peeled-back (some peeled-id) d =
       ap some (ap (take n) (behind first 94 (peeled-id ++ 10 ∷ []) (length first) refl) ∙ take-at peeled-id (10 ∷ []) n (d .long))
 
-  pub entry-back : entryOf n (written e) ≡ e
+  pub entry-back : entryOf n (linesOf e) (readingOf e) ≡ e
   entry-back = λ i. record { name = name-back i; id = id-back i; peeled = peeled-back (e .peeled) (s .peeled) i }

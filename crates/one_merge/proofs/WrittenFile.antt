@@ -6,13 +6,14 @@ use Prim.Native.Nat.{ℕ, suc, _<_}
 use lib.ListN.{length}
 use Rattle.class.specs.Class.{paper}
 use Rattle.name.specs.Name.{validName}
+use Rattle.decode.specs.Entry.{Entry}
 use Rattle.checks.specs.declared.Verdict.the-variants.{Clean}
 use Rattle.iter.specs.Items.{items}
 use Rattle.checks.specs.Check.{checkOf}
 use Rattle.checks.specs.Passes.{allGood, ascending, Passes}
 use Rattle.checks.proofs.Passes.{judges}
 use Rattle.checks.proofs.CheckMeans.{read}
-use Rattle.lines.specs.Lines.{Entry, linesOfAll, headerLine}
+use Rattle.lines.specs.Lines.{linesOfAll, headerLine}
 use Rattle.one_merge.specs.OneMerge.{entryNamed, Tells}
 use Rattle.one_merge.proofs.CheckedLookup.{body-tells}
 use Rattle.merge.proofs.Entries.{AllSound, Ascends}

@@ -8,11 +8,12 @@ use lib.ListN.{getD, length, length-append}
 use lib.Seq.{take-append-seam, drop-append-seam}
 use Rattle.class.specs.Class.{paper, isHex}
 use Rattle.decode.specs.declared.reference.Reading.the-variants.{Good}
+use Rattle.decode.specs.Entry.{Entry}
 use Rattle.decode.specs.Record.{recordOf}
+use Rattle.iter.specs.Entries.{entriesOf}
 use Rattle.iter.specs.Items.{Item, sizeOf, items}
 use Rattle.iter.proofs.Items.{size-good, items-nil, items-step}
-use Rattle.lines.specs.Lines.{Entry, peeledLines, linesOf, linesOfAll}
-use Rattle.merge.specs.Entry.{entriesOf}
+use Rattle.lines.specs.Lines.{peeledLines, linesOf, linesOfAll}
 use Rattle.merge.proofs.Entries.{Digits, Sound, AllSound}
 use Rattle.one_merge.proofs.ReadBack.{lines-then, readingOf, written, read-one, entry-back}
 

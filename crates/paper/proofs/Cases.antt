@@ -12,13 +12,13 @@ use Rattle.probe.specs.Shape.{shapeOf}
 use Rattle.probe.specs.RecordStart.{recordStart}
 use Rattle.start.specs.Start.{firstItem, startOf}
 use Rattle.iter.specs.Step.{more, stepOf}
-use Rattle.handed.specs.Run.{runOf, readOf}
+use Rattle.handed.specs.Iteration.{iterate, readOf}
 use Rattle.iter.specs.Items.{sizeOf, itemsBehind, items}
 use Rattle.checks.specs.Check.{judgeBody, checkOf, checkAnswer}
 use Rattle.search.specs.Search.{probedOf, halve, searchOf}
 use Rattle.find.specs.Lookup.{lookupOf, lookupAnswer}
 use Rattle.length.specs.Length.{lengthAt}
-use Rattle.parts.specs.Parts.{editKind, editName, behindName}
+use Rattle.parts.specs.Parts.{editName, behindName}
 use Rattle.sort.specs.Sorted.{sorted}
 use Rattle.sort.specs.Twin.{firstTwin}
 use Rattle.edit.specs.Edit.{editOf, namedEdit}
@@ -28,7 +28,7 @@ use Rattle.loose.specs.Loose.{symbolicOf, looseOf, looseAnswer}
 use Rattle.paper.specs.Cases.{EveryCase}
 
 pub every-case : EveryCase
-unfolding isHex isForbidden isLineEnd byteAt idAt eol newlineAt textAt headerOf recordOf shapeOf recordStart firstItem startOf more stepOf runOf readOf sizeOf itemsBehind items
+unfolding isHex isForbidden isLineEnd byteAt idAt eol newlineAt textAt headerOf recordOf shapeOf recordStart firstItem startOf more stepOf iterate readOf sizeOf itemsBehind items
     noComponentBeginsWithDot noLockAtTheEnd hasSlash noDotDot noForbiddenByte slashesApart noDotAtTheEnd noAtBrace notTheLoneAt validName
     judgeBody checkOf checkAnswer probedOf halve searchOf lookupOf lookupAnswer lengthAt symbolicOf looseOf looseAnswer admission digitsOf overLimit
     editOf namedEdit behindName editName sorted firstTwin editsFrom editsOf twinsOf preparedOf finished oldEntries judged editsInOrder mergeOf mergeAnswer

@@ -1,4 +1,4 @@
--- Document 01's worked examples of lookup: the prover computes every case.
+-- Lookup and `ask` in five small bodies: the prover computes every case.
 use mathlib.Core.Path.{_≡_, refl}
 use Rattle.class.specs.Class.{isHex, isForbidden, isLineEnd}
 use Rattle.parse.specs.Part.{byteAt}

@@ -2,6 +2,7 @@
 -- document says.
 use mathlib.Core.Path.{_≡_}
 use mathlib.Core.List.{List, [], _∷_, _++_, map}
+use mathlib.Core.Option.{none}
 use Prim.Native.Nat.{ℕ}
 use lib.ListN.{take, drop, replicate}
 use Rattle.class.specs.Class.{paper}
@@ -10,7 +11,7 @@ use Rattle.checks.specs.declared.CheckAnswer.{CheckAnswer}
 use Rattle.checks.specs.declared.CheckAnswer.the-variants as checked
 use Rattle.checks.specs.declared.Verdict.the-variants.{Clean, Refused}
 use Rattle.handed.specs.Handed.{Handed, good, error, whats}
-use Rattle.handed.specs.Run.{readOf, outOf}
+use Rattle.handed.specs.Iteration.{readOf, outOf}
 use Rattle.find.specs.Lookup.{lookupAnswer, lookupNumber}
 use Rattle.length.specs.declared.Length.{Length}
 use Rattle.length.specs.declared.Length.the-variants.{Of, Malformed}
@@ -103,7 +104,7 @@ cases =
     -- "P `1* refs/s/a` LF `^zz` LF: error 1 `1* refs/s/a`, error 2 `^zz`."
     ∷ case (iterate (line (10 ∷ 94 ∷ 122 ∷ 122 ∷ 10 ∷ []))) (gives (error 1 (line []) ∷ error 2 (94 ∷ 122 ∷ 122 ∷ []) ∷ []))
     -- "P `1* refs/s/a` CR LF: good. P with a bare CR before `b` LF: bad. P without any LF: bad."
-    ∷ case (iterate (line (13 ∷ 10 ∷ []))) (gives (good (ones 40) refsSA ∷ []))
+    ∷ case (iterate (line (13 ∷ 10 ∷ []))) (gives (good (record { name = refsSA; id = ones 40; peeled = none }) ∷ []))
     ∷ case (iterate (line (13 ∷ 98 ∷ 10 ∷ []))) (gives (error 1 (line (13 ∷ 98 ∷ [])) ∷ []))
     ∷ case (iterate (line [])) (gives (error 1 (ones 40 ++ 32 ∷ 114 ∷ 101 ∷ 102 ∷ 115 ∷ 47 ∷ 115 ∷ 47 ∷ []) ∷ []))
     -- "P length 8 as one byte 8; P 128 as 128, 1; P 8 as 136, 0: number 7."

@@ -1,4 +1,4 @@
--- Document 01's worked examples of lookup: kind 1, ids of 40 digits.
+-- Lookup and `ask` in five small bodies, the first of them document 01's: kind 1, ids of 40 digits.
 use mathlib.Core.List.{List, [], _∷_, _++_}
 use Prim.Native.Nat.{ℕ}
 use lib.ListN.{replicate}
@@ -12,7 +12,7 @@ use Rattle.ask.specs.declared.Told.the-variants as told
 use Rattle.find.specs.Lookup.{lookupOf}
 use Rattle.ask.specs.Ask.{askOf}
 
--- some bytes, what the lookup of `refs/s/a` in them gives, and what the lookup gives that can be trusted on any bytes
+-- some bytes, what the lookup of `refs/s/a` in them gives, and what `ask` gives
 pub record Case : Type 0 where
   pub bytes : List ℕ
   pub found : Lookup

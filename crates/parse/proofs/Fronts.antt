@@ -1,11 +1,11 @@
 -- What the front of a list says of runs, lines and line ends, whatever follows it.
 use mathlib.Core.Path.{_≡_, refl, sym, ap, _∙_}
-use mathlib.Core.Bool.{Bool, true, false, not, _&&_, _||_}
+use mathlib.Core.Bool.{Bool, true, false, not, _&&_}
 use mathlib.Core.List.{List, [], _∷_, _++_}
 use Prim.Native.Nat.{ℕ, zero, suc, _+_, _-_, _≤_, _<_}
 use native.Mathlib.Omega.{arith}
 use lib.Dec.{eqb}
-use lib.ListN.{getD, length, take, drop, List·getD-append}
+use lib.ListN.{getD, length, drop, List·getD-append}
 use borrow.Author.Tests.{eqb-true, ne-eqb}
 use Rattle.parse.specs.Choice.{if}
 use Rattle.class.specs.Class.{isHex, isLineEnd}

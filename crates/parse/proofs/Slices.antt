@@ -4,7 +4,7 @@ use mathlib.Core.List.{List, [], _∷_}
 use Prim.Native.Nat.{ℕ, zero, suc, _+_, _-_, _≤_}
 use native.Mathlib.Omega.{arith}
 use lib.ListN.{length, take, drop, length-drop}
-use lib.Seq.{take-all, take-take, take-nil, drop-nil}
+use lib.Seq.{take-all, take-take}
 
 -- the bytes from a place to the end
 pub rest-is : (s : List ℕ) (place : ℕ) → take (length s - place) (drop place s) ≡ drop place s

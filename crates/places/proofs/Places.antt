@@ -9,15 +9,15 @@ use borrow.Author.Tests.{ltb-true, ltb-false, lt-ltb, le-ltb}
 use Rattle.compare.specs.Order.{orderOf, isLess}
 use Rattle.compare.specs.declared.order.Order.{Order}
 use Rattle.compare.specs.declared.order.Order.the-variants.{Less, Equal, Greater}
-use Rattle.compare.proofs.Orders.{order-refl, order-equal, turned, order-turned, less-trans}
-use Rattle.places.specs.Order.{isEqual, before}
+use Rattle.compare.proofs.Orders.{order-refl, order-equal, isEqual, same-by-order, turned, order-turned, less-trans}
+use Rattle.places.specs.Order.{before}
 use Rattle.places.specs.Laws.{StrictOrder}
 
 module _ (name : ℕ → List ℕ) where
   -- what the order of the names says
   pub before-by : (p q : ℕ) (o : Order) → orderOf (name p) (name q) ≡ o → before name p q ≡ (isLess o || (isEqual o && ltb p q))
   unfolding before
-  before-by p q o e = rw e
+  before-by p q o e = rw (same-by-order (name p) (name q), e)
 
   -- why a place comes first
   data First (p q : ℕ) : Type 0 where

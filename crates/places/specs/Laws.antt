@@ -1,4 +1,4 @@
--- What it is to be an order, a list in order, and a list of names that rise, or are different, or are twins.
+-- What it is to be an order, a list in order, and a list of names that rise, or are different, or are twins: for the theorems of `sort`.
 use mathlib.Core.Bool.{Bool, true, false}
 use mathlib.Core.Path.{_≡_}
 use mathlib.Core.List.{List, [], _∷_}
@@ -20,8 +20,8 @@ abbrev pub NotBefore : (ℕ → ℕ → Bool) → List ℕ → ℕ → ℕ → T
 NotBefore lt l i j = lt (getD l i 0) (getD l j 0) ≡ false
 
 -- no entry comes before one in front of it, its neighbour or any other
-abbrev pub Ascending : (ℕ → ℕ → Bool) → List ℕ → Type 0
-Ascending lt l = (i j : ℕ) → i < j → j < length l → NotBefore lt l j i
+abbrev pub Ordered : (ℕ → ℕ → Bool) → List ℕ → Type 0
+Ordered lt l = (i j : ℕ) → i < j → j < length l → NotBefore lt l j i
 
 -- how often p stands in a list
 abbrev pub count : ℕ → List ℕ → ℕ
@@ -34,7 +34,7 @@ Permutation a b = (p : ℕ) → count p a ≡ count p b
 
 -- a is l in order
 pub record InOrder (lt : ℕ → ℕ → Bool) (l a : List ℕ) : Type 0 where
-  pub ascending : Ascending lt a
+  pub ascending : Ordered lt a
   pub permutation : Permutation a l
 
 -- each name is smaller than every one behind it

@@ -12,7 +12,7 @@ use Rattle.places.specs.declared.name.Layout.the-variants.{Edit, Record}
 unfoldable pub textOf : List ℕ → List ℕ
 textOf r = take (textLen paper r) r
 
--- a record: an id of so many digits, one byte, and its name as text
+-- a record: an id of so many digits, one byte, and its name as text; for an index of a file's records, which is still to come
 abbrev pub standingName : Layout → List ℕ → ℕ → List ℕ
 standingName Edit s p = editName s p
 standingName (Record digits) s p = textOf (drop (p + digits + 1) s)

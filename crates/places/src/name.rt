@@ -3,8 +3,9 @@ ghost use mathlib.Core.Path.{_≡_};
 ghost use Prim.Native.Nat.{_+_};
 ghost use lib.ListN.{drop};
 ghost use Rattle.compare.specs.Order.{orderOf};
+ghost use Rattle.compare.specs.Prefix.{same};
 ghost use Rattle.places.specs.Name.{standingName};
-ghost use Rattle.places.specs.Order.{sameName, comesFirst};
+ghost use Rattle.places.specs.Order.{comesFirst};
 use compare::order::Order;
 
 // How a name is found at a place of the bytes.
@@ -28,7 +29,7 @@ pub fn comes_first(s: &[u8], layout: Layout, p: u32, q: u32) -> bool
 
 // Whether the same name stands at two places.
 pub fn same_name(s: &[u8], layout: Layout, p: u32, q: u32) -> bool
-    ensures { λ r. ⌜ r ≡ sameName (standingName layout (now (s .entry)) p) (standingName layout (now (s .entry)) q) ⌝ }
+    ensures { λ r. ⌜ r ≡ same (standingName layout (now (s .entry)) p) (standingName layout (now (s .entry)) q) ⌝ }
 {
     match compare(s, layout, p, q) {
         Order::Less => false,

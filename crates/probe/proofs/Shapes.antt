@@ -1,5 +1,5 @@
 -- The shape of a record: what stands there where it holds, and that its name lies inside the bytes.
-use mathlib.Core.Path.{_≡_, refl, sym, ap, _∙_}
+use mathlib.Core.Path.{_≡_, refl}
 use mathlib.Core.Bool.{Bool, true, false, not}
 use mathlib.Core.List.{List}
 use Prim.Native.Nat.{ℕ, _+_, _-_, _≤_, _<_}
@@ -7,13 +7,13 @@ use native.Mathlib.Omega.{arith}
 use lib.Dec.{ltb}
 use lib.ListN.{getD, length, drop, length-drop}
 use borrow.Author.Tests.{ltb-true, ltb-false}
-use Rattle.parse.specs.declared.part.Past.the-variants.{At, Unread}
+use Rattle.parse.specs.declared.part.Past.the-variants.{At}
 use Rattle.class.specs.Class.{Classes}
 use Rattle.parse.specs.Part.{byteAt}
 use Rattle.parse.specs.Line.{eol, textLen}
 use Rattle.parse.proofs.Runs.{span-le}
 use Rattle.parse.proofs.Views.{ByteView, there, not-there, byte-view, textEnd, TextView, text, no-text, text-view}
-use Rattle.probe.specs.declared.shape.Shape.the-variants.{Name, Fails}
+use Rattle.probe.specs.declared.shape.Shape.the-variants.{NameLen, Fails}
 use Rattle.probe.specs.Shape.{shapeOf}
 
 module _ (byte : Classes) (n : ℕ) (s : List ℕ) where
@@ -28,7 +28,7 @@ module _ (byte : Classes) (n : ℕ) (s : List ℕ) where
     pub end : 0 < eol (drop (textEnd byte s (n + 1)) s)
 
   pub data ShapeView : Type 0 where
-    named : n < length s → Shaped → shapeOf byte n s ≡ Name shapeLen → ShapeView
+    named : n < length s → Shaped → shapeOf byte n s ≡ NameLen shapeLen → ShapeView
     shapeless : (Shaped → ⊥) → shapeOf byte n s ≡ Fails → ShapeView
 
   behind-space : n < length s → getD s n 0 ≡ 32 → byteAt 32 s n ≡ At (n + 1) → TextView byte s (n + 1) → (t : Bool) → ltb (n + 1) (textEnd byte s (n + 1)) ≡ t → ShapeView
@@ -48,7 +48,7 @@ module _ (byte : Classes) (n : ℕ) (s : List ℕ) where
       go (not-there other e) = shapeless (λ h. other (h .space)) (rw e)
       go (there l b e) = behind-space l b e (text-view byte s (n + 1)) (ltb (n + 1) (textEnd byte s (n + 1))) refl
 
-  pub shape-fits : (k : ℕ) → shapeOf byte n s ≡ Name k → n + 1 + k ≤ length s
+  pub shape-fits : (k : ℕ) → shapeOf byte n s ≡ NameLen k → n + 1 + k ≤ length s
   shape-fits k e = go shape-view
     where
       go : ShapeView → n + 1 + k ≤ length s

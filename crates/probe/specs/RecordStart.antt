@@ -5,7 +5,7 @@ use lib.Dec.{eqb}
 use lib.ListN.{getD, length}
 use Rattle.parse.specs.Choice.{if}
 
--- "the byte after the last LF before it, or 0"; beyond the end there is no LF, so that counts as the end
+-- "the byte after the last LF before it, or 0"; beyond the end there is no LF, so a place there counts as the end
 abbrev pub lineStart : List ℕ → ℕ → ℕ
 lineStart s zero = zero
 lineStart s (suc place) = if (eqb (getD s place 0) 10) (suc place) (lineStart s place)

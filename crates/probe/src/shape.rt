@@ -5,9 +5,9 @@ ghost use Rattle.probe.specs.Shape.{shapeOf};
 use parse::line::Text;
 use parse::part::Past;
 
-// The length of the name, which stands behind n bytes and a space; or no such shape.
+// The length of the name, which stands behind n bytes and a space, or that there is no such shape.
 pub enum Shape {
-    Name(usize),
+    NameLen(usize),
     Fails,
 }
 
@@ -24,5 +24,5 @@ pub fn name_at_record_start(t: &[u8; 256], s: &[u8], n: usize) -> Shape
     if end <= from {
         return Shape::Fails;
     }
-    Shape::Name(end - from)
+    Shape::NameLen(end - from)
 }

@@ -7,7 +7,7 @@ use native.Mathlib.Nat.{add-zero, zero-add, suc-add, add-suc, sub-zero, zero-sub
 use native.Mathlib.Numerals.{add-one}
 use native.Mathlib.Omega.{arith}
 use lib.Dec.{leb}
-use lib.ListN.{length, take, drop, set, take-append-drop, length-append}
+use lib.ListN.{length, drop, set, take-append-drop, length-append}
 use lib.Seq.{take-nil, drop-nil, take-all, set-split}
 use borrow.Author.Tests.{leb-true, leb-false}
 use Rattle.put.specs.Put.{over, placeBehind}
@@ -62,9 +62,6 @@ pub over-twice : (d : List ℕ) (at k : ℕ) (s t : List ℕ) → k ≡ at + len
 over-twice d at k s t e = ap (λ n. over (over d at s) n t) e ∙ over-next d at s t
 
 -- ---- a text that fits
-
-pub over-within : (d : List ℕ) (at : ℕ) (w : List ℕ) → at + length w ≤ length d → over d at w ≡ take at d ++ (w ++ drop (at + length w) d)
-over-within d at w h = rw (take-all (length d - at) w (omega arith))
 
 pub over-fits : (d w : List ℕ) → length w ≤ length d → over d 0 w ≡ w ++ drop (length w) d
 over-fits d w h = rw (sub-zero, zero-add, take-all (length d) w h)

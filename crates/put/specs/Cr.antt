@@ -1,4 +1,4 @@
--- Bytes without any CR.
+-- Bytes without any CR: what writers promise each other. Who only asks what a merge writes need not read it.
 use mathlib.Core.Bool.{Bool, not}
 use mathlib.Core.List.{List, [], _∷_}
 use Prim.Native.Nat.{ℕ}

@@ -80,7 +80,7 @@ fn behind(file: &[u8], at: usize, n: usize) -> usize {
     at + n
 }
 
-// A space and a number. Behind one that is none (0, where the file's first comment begins) there is none either.
+// A space and a number. `from` is 0 where the number before it was missing; no space stands there, so this one is missing, too.
 fn number(file: &[u8], from: usize) -> Decimal {
     if file.len() <= from {
         return no_decimal();

@@ -20,16 +20,14 @@ peeledNumber Unspecified = 0
 peeledNumber Partial = 1
 peeledNumber Fully = 2
 
--- no header: a number, and the length of a text
-abbrev pub headerBare : ℕ → ℕ → HeaderReply
-headerBare number textLen = record { number = number; peeled = 0; sorted = 0; place = 0; «text_len» = textLen }
+abbrev pub headerGives : ℕ → ℕ → ℕ → ℕ → ℕ → HeaderReply
+headerGives number peeled sorted place textLen = record { number = number; peeled = peeled; sorted = sorted; place = place; «text_len» = textLen }
 
 -- what stands beside a number
 abbrev pub headerBeside : ℕ → HeaderAnswer → HeaderReply
-headerBeside number (Done (Header h)) =
-    record { number = number; peeled = peeledNumber (h .peeled); sorted = if (h .sorted) 1 0; place = h .body; «text_len» = 0 }
-headerBeside number (Done (Unreadable text)) = headerBare number text
-headerBeside number TooLarge = headerBare number 0
+headerBeside number (Done (Header h)) = headerGives number (peeledNumber (h .peeled)) (if (h .sorted) 1 0) (h .body) 0
+headerBeside number (Done (Unreadable text)) = headerGives number 0 0 0 text
+headerBeside number TooLarge = headerGives number 0 0 0 0
 
 abbrev pub headerReply : HeaderAnswer → HeaderReply
 headerReply a = headerBeside (headerNumber a) a

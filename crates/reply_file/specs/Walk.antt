@@ -12,7 +12,8 @@ use Rattle.start.specs.Start.{startNumber}
 use Rattle.iter.specs.Step.{stepNumber}
 use Rattle.reply_file.specs.declared.walk.StartReply.{StartReply}
 use Rattle.reply_file.specs.declared.walk.StepReply.{StepReply}
-use Rattle.tell.specs.Told.{Near, nameAt, peeledAt}
+use Rattle.tell.specs.declared.Parts.{Parts}
+use Rattle.tell.specs.Told.{Near, noParts, partsOf}
 
 -- ---- the start
 
@@ -31,56 +32,32 @@ startReply a = startBeside (startNumber a) a
 
 -- ---- the step from a place
 
--- no item
-abbrev pub stepBare : ℕ → ℕ → ℕ → StepReply
-stepBare number next item =
+abbrev pub stepGives : ℕ → ℕ → ℕ → ℕ → ℕ → Parts → ℕ → ℕ → StepReply
+stepGives number what start next nextItem parts error textLen =
     record {
       number = number;
-      what = 0;
-      start = 0;
+      what = what;
+      start = start;
       next = next;
-      item = item;
-      «name_at» = 0;
-      «name_len» = 0;
-      «peeled_at» = 0;
-      error = 0;
-      «text_len» = 0;
+      item = nextItem;
+      «name_at» = parts .«name_at»;
+      «name_len» = parts .«name_len»;
+      «peeled_at» = parts .«peeled_at»;
+      error = error;
+      «text_len» = textLen;
     }
 
+-- what stands beside a number. What it is: 1 a record, 2 an error, 0 no item
 abbrev pub stepBeside : ℕ → ℕ → ℕ → StepAnswer → StepReply
-stepBeside number kind place (step.Done (End next item)) = stepBare number next item
-stepBeside number kind place (step.Done (Good r next item)) =
-    record {
-      number = number;
-      what = 1;
-      start = place;
-      next = next;
-      item = item;
-      «name_at» = nameAt kind place;
-      «name_len» = r .«name_len»;
-      «peeled_at» = peeledAt place (r .peeled);
-      error = 0;
-      «text_len» = 0;
-    }
-stepBeside number kind place (step.Done (Error f error text next item)) =
-    record {
-      number = number;
-      what = 2;
-      start = place;
-      next = next;
-      item = item;
-      «name_at» = 0;
-      «name_len» = 0;
-      «peeled_at» = 0;
-      error = error;
-      «text_len» = text;
-    }
-stepBeside number kind place step.UnknownKind = stepBare number 0 0
-stepBeside number kind place step.TooLarge = stepBare number 0 0
+stepBeside number kind place (step.Done (End next nextItem)) = stepGives number 0 0 next nextItem noParts 0 0
+stepBeside number kind place (step.Done (Good r next nextItem)) = stepGives number 1 place next nextItem (partsOf kind place r) 0 0
+stepBeside number kind place (step.Done (Error f item text next nextItem)) = stepGives number 2 place next nextItem noParts item text
+stepBeside number kind place step.UnknownKind = stepGives number 0 0 0 0 noParts 0 0
+stepBeside number kind place step.TooLarge = stepGives number 0 0 0 0 noParts 0 0
 
 abbrev pub stepReply : ℕ → ℕ → StepAnswer → StepReply
 stepReply kind place a = stepBeside (stepNumber a) kind place a
 
--- what is asked of an answer that is to be told from a place
+-- what the private function `step_told` requires: a record in the answer lies under the size limit
 abbrev pub StepNear : ℕ → StepAnswer → Type 0
-StepNear place a = (r : Record) (next item : ℕ) → a ≡ step.Done (Good r next item) → Near place r
+StepNear place a = (r : Record) (next nextItem : ℕ) → a ≡ step.Done (Good r next nextItem) → Near place r

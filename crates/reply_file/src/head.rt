@@ -2,7 +2,7 @@
 ghost use mathlib.Core.Path.{_≡_};
 ghost use Rattle.parse.specs.Choice.{if};
 ghost use Rattle.header.specs.Header.{headerAnswer};
-ghost use Rattle.reply_file.specs.Head.{headerReply, headerBare, peeledNumber, nameNumber};
+ghost use Rattle.reply_file.specs.Head.{headerReply, headerGives, peeledNumber, nameNumber};
 use header::HeaderAnswer;
 use header::Opened;
 use header::Peeled;
@@ -32,28 +32,22 @@ fn header_told(answer: HeaderAnswer) -> HeaderReply
         HeaderAnswer::Done(said) => match said {
             Opened::Header(h) => {
                 let peeled = h.peeled;
-                HeaderReply {
-                    number: 0,
-                    peeled: peeled_number(peeled),
-                    sorted: flag(h.sorted),
-                    place: h.body,
-                    text_len: 0,
-                }
+                header_gives(0, peeled_number(peeled), flag(h.sorted), h.body, 0)
             }
-            Opened::Unreadable(text) => bare(2, text),
+            Opened::Unreadable(text) => header_gives(2, 0, 0, 0, text),
         },
-        HeaderAnswer::TooLarge => bare(17, 0),
+        HeaderAnswer::TooLarge => header_gives(17, 0, 0, 0, 0),
     }
 }
 
-fn bare(number: u32, text: usize) -> HeaderReply
-    ensures { λ r. ⌜ r ≡ headerBare number text ⌝ }
+fn header_gives(number: u32, peeled: u32, sorted: u32, place: usize, text: usize) -> HeaderReply
+    ensures { λ r. ⌜ r ≡ headerGives number peeled sorted place text ⌝ }
 {
     HeaderReply {
         number,
-        peeled: 0,
-        sorted: 0,
-        place: 0,
+        peeled,
+        sorted,
+        place,
         text_len: text,
     }
 }

@@ -3,11 +3,12 @@ ghost use mathlib.Core.Path.{_≡_};
 ghost use mathlib.Core.List.{[]};
 ghost use Rattle.start.specs.Start.{startAnswer};
 ghost use Rattle.iter.specs.Step.{stepAnswer};
-ghost use Rattle.reply_file.specs.Walk.{startReply, startGives, stepReply, StepNear, stepBare};
+ghost use Rattle.reply_file.specs.Walk.{startReply, startGives, stepReply, StepNear, stepGives};
 use iter::step::Step;
 use iter::step::StepAnswer;
 use start::Start;
 use start::StartAnswer;
+use tell::Parts;
 
 #[repr(C)]
 pub struct StartReply {
@@ -53,7 +54,7 @@ fn start_gives(number: u32, place: usize, item: u64, text: usize) -> StartReply
 #[repr(C)]
 pub struct StepReply {
     pub number: u32,
-    // 0 the end, 1 a record, 2 an error.
+    // Beside number 0: 0 the end, 1 a record, 2 an error. A refusal has 0 here, too: look at the number first.
     pub what: u32,
     // Where the item starts: a record's id, or an error's text.
     pub start: usize,
@@ -95,69 +96,53 @@ fn step_told(kind: u32, place: usize, answer: StepAnswer) -> StepReply
     requires { ⌜ StepNear place answer ⌝ }
     ensures { λ r. ⌜ r ≡ stepReply kind place answer ⌝ }
 {
+    let none = tell::no_parts();
     match answer {
         StepAnswer::Done(said) => match said {
-            Step::End {
-                next,
-                next_item: item,
-            } => step_bare(0, next, item),
+            Step::End { next, next_item } => step_gives(0, 0, 0, next, next_item, none, 0, 0),
             Step::Good {
                 found,
                 next,
-                next_item: item,
+                next_item,
             } => {
                 let parts = tell::parts_at(kind, place, found);
-                StepReply {
-                    number: 0,
-                    what: 1,
-                    start: place,
-                    next,
-                    item,
-                    name_at: parts.name_at,
-                    name_len: parts.name_len,
-                    peeled_at: parts.peeled_at,
-                    error: 0,
-                    text_len: 0,
-                }
+                step_gives(0, 1, place, next, next_item, parts, 0, 0)
             }
             Step::Error {
                 fault: _,
-                item: number,
+                item,
                 text,
                 next,
-                next_item: item,
-            } => StepReply {
-                number: 0,
-                what: 2,
-                start: place,
-                next,
-                item,
-                name_at: 0,
-                name_len: 0,
-                peeled_at: 0,
-                error: number,
-                text_len: text,
-            },
+                next_item,
+            } => step_gives(0, 2, place, next, next_item, none, item, text),
         },
-        StepAnswer::UnknownKind => step_bare(1, 0, 0),
-        StepAnswer::TooLarge => step_bare(17, 0, 0),
+        StepAnswer::UnknownKind => step_gives(1, 0, 0, 0, 0, none, 0, 0),
+        StepAnswer::TooLarge => step_gives(17, 0, 0, 0, 0, none, 0, 0),
     }
 }
 
-// No item.
-fn step_bare(number: u32, next: usize, item: u64) -> StepReply
-    ensures { λ r. ⌜ r ≡ stepBare number next item ⌝ }
+fn step_gives(
+    number: u32,
+    what: u32,
+    start: usize,
+    next: usize,
+    next_item: u64,
+    parts: Parts,
+    error: u64,
+    text: usize,
+) -> StepReply
+    ensures { λ r. ⌜ r ≡ stepGives number what start next «next_item» parts error text ⌝ }
 {
     StepReply {
         number,
-        what: 0,
-        start: 0,
+        what,
+        start,
         next,
-        item,
-        name_at: 0,
-        name_len: 0,
-        peeled_at: 0,
-        error: 0,
-        text_len: 0,
+        item: next_item,
+        name_at: parts.name_at,
+        name_len: parts.name_len,
+        peeled_at: parts.peeled_at,
+        error,
+        text_len: text,
     }
 }

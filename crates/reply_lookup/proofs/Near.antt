@@ -12,7 +12,7 @@ use Rattle.name.specs.Name.{validName}
 use Rattle.decode.specs.declared.reference.Record.{Record}
 use Rattle.decode.specs.declared.reference.Reading.{Reading}
 use Rattle.decode.specs.declared.reference.Reading.the-variants as reading
-use Rattle.decode.specs.Record.{recordOf}
+use Rattle.decode.specs.Record.{recordOf, decoded}
 use Rattle.header.proofs.Headers.{body-inside}
 use Rattle.iter.specs.Items.{Item}
 use Rattle.iter.specs.Stands.{Stands}
@@ -24,7 +24,7 @@ use Rattle.find.specs.declared.lookup.LookupAnswer.the-variants as found
 use Rattle.ask.specs.declared.Told.the-variants as told
 use Rattle.ask.specs.declared.AskAnswer.the-variants as asked
 use Rattle.search.specs.Search.{searchOf}
-use Rattle.find.specs.Lookup.{readAt, lookupBy, lookupOf, lookupAnswer}
+use Rattle.find.specs.Lookup.{lookupBy, lookupOf, lookupAnswer}
 use Rattle.find.specs.PrefixStart.{placeOf}
 use Rattle.ask.specs.Ask.{askOf, askAnswer}
 use Rattle.find.proofs.Places.{search-inside}
@@ -35,7 +35,7 @@ use Rattle.tell.proofs.Near.{Lies, near}
 -- ---- the lookup
 
 module _ (n : ℕ) (s name : List ℕ) {place : ℕ} {r : Record} where
-  read-at : (at : ℕ) (w : Reading) → readAt at w ≡ lookup.Charted place r → (at ≡ place) × (w ≡ reading.Good r)
+  read-at : (at : ℕ) (w : Reading) → decoded w (λ found. lookup.Charted at found) (λ f. lookup.BadRecord at f) ≡ lookup.Charted place r → (at ≡ place) × (w ≡ reading.Good r)
   read-at at (reading.Good q) e = (cc, cc)
   read-at at (reading.Bad f) e = absurd (let z : _≡_ {A = ℕ} 0 1 = cc in omega arith)
 

@@ -6,38 +6,26 @@ use Rattle.ask.specs.declared.Told.the-variants.{Charted, Absent, BadName, Refu
 use Rattle.ask.specs.declared.AskAnswer.{AskAnswer}
 use Rattle.ask.specs.declared.AskAnswer.the-variants.{Done, UnknownKind, TooLarge}
 use Rattle.ask.specs.Ask.{askNumber}
-use Rattle.tell.specs.declared.Numbered.{Numbered}
-use Rattle.tell.specs.Told.{Near, nameAt, peeledAt, refusalBeside}
+use Rattle.tell.specs.declared.Parts.{Parts}
+use Rattle.tell.specs.Told.{Near, noParts, partsOf, refusalPlace, refusalText}
 use Rattle.reply_lookup.specs.declared.asked.AskReply.{AskReply}
 
--- no record: where the check says so, its place or its text
-abbrev pub askBare : ℕ → ℕ → ℕ → AskReply
-askBare number place textLen =
-    record { number = number; place = place; «name_at» = 0; «name_len» = 0; «peeled_at» = 0; «text_len» = textLen }
+abbrev pub askGives : ℕ → ℕ → Parts → ℕ → AskReply
+askGives number place parts textLen =
+    record { number = number; place = place; «name_at» = parts .«name_at»; «name_len» = parts .«name_len»; «peeled_at» = parts .«peeled_at»; «text_len» = textLen }
 
-abbrev pub askRefused : Numbered → AskReply
-askRefused r = askBare (r .number) (r .place) (r .«text_len»)
-
--- what stands beside a number
+-- what stands beside a number: where the check refuses, its place or its text
 abbrev pub askBeside : ℕ → ℕ → AskAnswer → AskReply
-askBeside number kind (Done (Charted place r)) =
-    record {
-      number = number;
-      place = place;
-      «name_at» = nameAt kind place;
-      «name_len» = r .«name_len»;
-      «peeled_at» = peeledAt place (r .peeled);
-      «text_len» = 0;
-    }
-askBeside number kind (Done Absent) = askBare number 0 0
-askBeside number kind (Done BadName) = askBare number 0 0
-askBeside number kind (Done (Refused why)) = askRefused (refusalBeside number why)
-askBeside number kind UnknownKind = askBare number 0 0
-askBeside number kind TooLarge = askBare number 0 0
+askBeside number kind (Done (Charted place r)) = askGives number place (partsOf kind place r) 0
+askBeside number kind (Done Absent) = askGives number 0 noParts 0
+askBeside number kind (Done BadName) = askGives number 0 noParts 0
+askBeside number kind (Done (Refused why)) = askGives number (refusalPlace why) noParts (refusalText why)
+askBeside number kind UnknownKind = askGives number 0 noParts 0
+askBeside number kind TooLarge = askGives number 0 noParts 0
 
 abbrev pub askReply : ℕ → AskAnswer → AskReply
 askReply kind a = askBeside (askNumber a) kind a
 
--- what is asked of an answer that is to be told
+-- what the private function `ask_told` requires: a record in the answer lies under the size limit
 abbrev pub AskNear : AskAnswer → Type 0
 AskNear a = (place : ℕ) (r : Record) → a ≡ Done (Charted place r) → Near place r

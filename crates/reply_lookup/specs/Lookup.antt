@@ -6,33 +6,27 @@ use Rattle.find.specs.declared.lookup.Lookup.the-variants.{Charted, BadRecord, 
 use Rattle.find.specs.declared.lookup.LookupAnswer.{LookupAnswer}
 use Rattle.find.specs.declared.lookup.LookupAnswer.the-variants.{Done, UnknownKind, TooLarge}
 use Rattle.find.specs.Lookup.{lookupNumber}
-use Rattle.tell.specs.Told.{Near, nameAt, peeledAt}
+use Rattle.tell.specs.declared.Parts.{Parts}
+use Rattle.tell.specs.Told.{Near, noParts, partsOf}
 use Rattle.reply_lookup.specs.declared.lookup.LookupReply.{LookupReply}
 
--- no record: "lookup on a hit the record's start for 4"
-abbrev pub lookupBare : ℕ → ℕ → LookupReply
-lookupBare number place = record { number = number; place = place; «name_at» = 0; «name_len» = 0; «peeled_at» = 0 }
+abbrev pub lookupGives : ℕ → ℕ → Parts → LookupReply
+lookupGives number place parts =
+    record { number = number; place = place; «name_at» = parts .«name_at»; «name_len» = parts .«name_len»; «peeled_at» = parts .«peeled_at» }
 
--- what stands beside a number
+-- what stands beside a number: "lookup on a hit the record's start for 4"; a hit at place 0 and a miss give the same reply (docs/DECISIONS.md)
 abbrev pub lookupBeside : ℕ → ℕ → LookupAnswer → LookupReply
-lookupBeside number kind (Done (Charted place r)) =
-    record {
-      number = number;
-      place = place;
-      «name_at» = nameAt kind place;
-      «name_len» = r .«name_len»;
-      «peeled_at» = peeledAt place (r .peeled);
-    }
-lookupBeside number kind (Done (BadRecord place f)) = lookupBare number place
-lookupBeside number kind (Done Unsure) = lookupBare number 0
-lookupBeside number kind (Done Absent) = lookupBare number 0
-lookupBeside number kind (Done BadName) = lookupBare number 0
-lookupBeside number kind UnknownKind = lookupBare number 0
-lookupBeside number kind TooLarge = lookupBare number 0
+lookupBeside number kind (Done (Charted place r)) = lookupGives number place (partsOf kind place r)
+lookupBeside number kind (Done (BadRecord place f)) = lookupGives number place noParts
+lookupBeside number kind (Done Unsure) = lookupGives number 0 noParts
+lookupBeside number kind (Done Absent) = lookupGives number 0 noParts
+lookupBeside number kind (Done BadName) = lookupGives number 0 noParts
+lookupBeside number kind UnknownKind = lookupGives number 0 noParts
+lookupBeside number kind TooLarge = lookupGives number 0 noParts
 
 abbrev pub lookupReply : ℕ → LookupAnswer → LookupReply
 lookupReply kind a = lookupBeside (lookupNumber a) kind a
 
--- what is asked of an answer that is to be told
+-- what the private function `lookup_told` requires: a record in the answer lies under the size limit
 abbrev pub LookupNear : LookupAnswer → Type 0
 LookupNear a = (place : ℕ) (r : Record) → a ≡ Done (Charted place r) → Near place r

@@ -7,8 +7,7 @@ use Rattle.find.specs.PrefixStart.{prefixStartNumber}
 use Rattle.reply_lookup.specs.declared.prefix.PrefixReply.{PrefixReply}
 
 abbrev pub prefixGives : ℕ → ℕ → ℕ → ℕ → ℕ → PrefixReply
-prefixGives number place item textAt textLen =
-    record { number = number; place = place; item = item; «text_at» = textAt; «text_len» = textLen }
+prefixGives number place item textAt textLen = record { number = number; place = place; item = item; «text_at» = textAt; «text_len» = textLen }
 
 -- what stands beside a number
 abbrev pub prefixBeside : ℕ → PrefixStartAnswer → PrefixReply

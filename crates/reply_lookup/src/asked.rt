@@ -1,9 +1,10 @@
 // The lookup that can be trusted on any bytes.
 ghost use mathlib.Core.Path.{_≡_};
 ghost use Rattle.ask.specs.Ask.{askAnswer};
-ghost use Rattle.reply_lookup.specs.Asked.{askReply, AskNear, askBare};
+ghost use Rattle.reply_lookup.specs.Asked.{askReply, AskNear, askGives};
 use ask::AskAnswer;
 use ask::Told;
+use tell::Parts;
 
 #[repr(C)]
 pub struct AskReply {
@@ -28,41 +29,33 @@ fn ask_told(kind: u32, answer: AskAnswer) -> AskReply
     requires { ⌜ AskNear answer ⌝ }
     ensures { λ r. ⌜ r ≡ askReply kind answer ⌝ }
 {
+    let none = tell::no_parts();
     match answer {
         AskAnswer::Done(said) => match said {
             Told::Charted { place, found } => {
-                let parts = tell::parts_at(kind, place, found);
-                AskReply {
-                    number: 0,
-                    place,
-                    name_at: parts.name_at,
-                    name_len: parts.name_len,
-                    peeled_at: parts.peeled_at,
-                    text_len: 0,
-                }
+                ask_gives(0, place, tell::parts_at(kind, place, found), 0)
             }
-            Told::Absent => ask_bare(5, 0, 0),
-            Told::BadName => ask_bare(3, 0, 0),
+            Told::Absent => ask_gives(5, 0, none, 0),
+            Told::BadName => ask_gives(3, 0, none, 0),
             Told::Refused(why) => {
                 let told = tell::refusal(why);
-                ask_bare(told.number, told.place, told.text_len)
+                ask_gives(told.number, told.place, none, told.text_len)
             }
         },
-        AskAnswer::UnknownKind => ask_bare(1, 0, 0),
-        AskAnswer::TooLarge => ask_bare(17, 0, 0),
+        AskAnswer::UnknownKind => ask_gives(1, 0, none, 0),
+        AskAnswer::TooLarge => ask_gives(17, 0, none, 0),
     }
 }
 
-// No record.
-fn ask_bare(number: u32, place: usize, text: usize) -> AskReply
-    ensures { λ r. ⌜ r ≡ askBare number place text ⌝ }
+fn ask_gives(number: u32, place: usize, parts: Parts, text: usize) -> AskReply
+    ensures { λ r. ⌜ r ≡ askGives number place parts text ⌝ }
 {
     AskReply {
         number,
         place,
-        name_at: 0,
-        name_len: 0,
-        peeled_at: 0,
+        name_at: parts.name_at,
+        name_len: parts.name_len,
+        peeled_at: parts.peeled_at,
         text_len: text,
     }
 }

@@ -1,9 +1,10 @@
 // Lookup of one name in a checked body.
 ghost use mathlib.Core.Path.{_≡_};
 ghost use Rattle.find.specs.Lookup.{lookupAnswer};
-ghost use Rattle.reply_lookup.specs.Lookup.{lookupReply, LookupNear, lookupBare};
+ghost use Rattle.reply_lookup.specs.Lookup.{lookupReply, LookupNear, lookupGives};
 use find::lookup::Lookup;
 use find::lookup::LookupAnswer;
+use tell::Parts;
 
 #[repr(C)]
 pub struct LookupReply {
@@ -26,37 +27,32 @@ fn lookup_told(kind: u32, answer: LookupAnswer) -> LookupReply
     requires { ⌜ LookupNear answer ⌝ }
     ensures { λ r. ⌜ r ≡ lookupReply kind answer ⌝ }
 {
+    let none = tell::no_parts();
     match answer {
         LookupAnswer::Done(said) => match said {
             Lookup::Charted { place, found } => {
-                let parts = tell::parts_at(kind, place, found);
-                LookupReply {
-                    number: 0,
-                    place,
-                    name_at: parts.name_at,
-                    name_len: parts.name_len,
-                    peeled_at: parts.peeled_at,
-                }
+                lookup_gives(0, place, tell::parts_at(kind, place, found))
             }
-            Lookup::BadRecord { place, fault } => lookup_bare(tell::fault_number(fault), place),
-            Lookup::Unsure => lookup_bare(4, 0),
-            Lookup::Absent => lookup_bare(5, 0),
-            Lookup::BadName => lookup_bare(3, 0),
+            Lookup::BadRecord { place, fault } => {
+                lookup_gives(tell::fault_number(fault), place, none)
+            }
+            Lookup::Unsure => lookup_gives(4, 0, none),
+            Lookup::Absent => lookup_gives(5, 0, none),
+            Lookup::BadName => lookup_gives(3, 0, none),
         },
-        LookupAnswer::UnknownKind => lookup_bare(1, 0),
-        LookupAnswer::TooLarge => lookup_bare(17, 0),
+        LookupAnswer::UnknownKind => lookup_gives(1, 0, none),
+        LookupAnswer::TooLarge => lookup_gives(17, 0, none),
     }
 }
 
-// No record.
-fn lookup_bare(number: u32, place: usize) -> LookupReply
-    ensures { λ r. ⌜ r ≡ lookupBare number place ⌝ }
+fn lookup_gives(number: u32, place: usize, parts: Parts) -> LookupReply
+    ensures { λ r. ⌜ r ≡ lookupGives number place parts ⌝ }
 {
     LookupReply {
         number,
         place,
-        name_at: 0,
-        name_len: 0,
-        peeled_at: 0,
+        name_at: parts.name_at,
+        name_len: parts.name_len,
+        peeled_at: parts.peeled_at,
     }
 }

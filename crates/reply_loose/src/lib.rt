@@ -8,7 +8,7 @@ use loose::LooseAnswer;
 #[repr(C)]
 pub struct LooseReply {
     pub number: u32,
-    // 1 an id, 2 the name of another reference.
+    // 1 an id, 2 the name of another reference, 0 beside a refusal.
     pub what: u32,
     // Where it stands, and its length.
     pub at: usize,

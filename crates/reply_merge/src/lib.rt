@@ -3,11 +3,10 @@ ghost use mathlib.Core.Path.{_≡_};
 ghost use lib.ListN.{length};
 ghost use Rattle.edit.specs.Edit.{editFaultNumber};
 ghost use Rattle.merge.specs.Merge.{mergeAnswer, indexAnswer, outputAfter};
-ghost use Rattle.reply_merge.specs.Merge.{mergeReply, mergeGives, listFaultTold};
+ghost use Rattle.reply_merge.specs.Merge.{mergeReply, mergeGives};
 use edit::EditFault;
 use edits::list::ListFault;
 use merge::Merged;
-use tell::Numbered;
 
 #[repr(C)]
 pub struct MergeReply {
@@ -41,10 +40,10 @@ fn merge_told(merged: Merged) -> MergeReply
         Merged::Done(len) => gives(0, 0, len, 0),
         Merged::UnknownKind => gives(1, 0, 0, 0),
         Merged::TooLarge => gives(17, 0, 0, 0),
-        Merged::BadList(why) => {
-            let told = list_fault(why);
-            gives(told.number, told.place, 0, told.text_len)
-        }
+        Merged::BadList(why) => match why {
+            ListFault::BadEdit { place, fault } => gives(edit_fault_number(fault), place, 0, 0),
+            ListFault::TooMany(place) => gives(9, place, 0, 0),
+        },
         Merged::ShortIndex => gives(10, 0, 0, 0),
         Merged::Twins(place) => gives(11, place as usize, 0, 0),
         Merged::Refused(why) => {
@@ -54,18 +53,6 @@ fn merge_told(merged: Merged) -> MergeReply
         Merged::NothingToDo => gives(13, 0, 0, 0),
         Merged::NoRecord => gives(14, 0, 0, 0),
         Merged::ShortOutput => gives(12, 0, 0, 0),
-    }
-}
-
-// The first fault of an edit list.
-fn list_fault(why: ListFault) -> Numbered
-    ensures { λ r. ⌜ r ≡ listFaultTold why ⌝ }
-{
-    match why {
-        ListFault::BadEdit { place, fault } => {
-            tell::refusal_gives(edit_fault_number(fault), place, 0)
-        }
-        ListFault::TooMany(place) => tell::refusal_gives(9, place, 0),
     }
 }
 

@@ -15,6 +15,7 @@ use Rattle.decode.specs.declared.reference.Fault.{Fault}
 use Rattle.decode.specs.declared.reference.Record.{Record}
 use Rattle.decode.specs.declared.reference.Reading.{Reading}
 use Rattle.decode.specs.declared.reference.Reading.the-variants.{Good, Bad}
+use Rattle.decode.specs.Record.{decoded}
 use Rattle.iter.specs.Items.{Item, items, nameOf}
 use Rattle.iter.proofs.ItemRead.{Reads, named}
 use Rattle.iter.proofs.Items.{items-nil}
@@ -22,20 +23,20 @@ use Rattle.iter.proofs.Turns.{head-bad, head-good}
 use Rattle.checks.specs.declared.Verdict.the-variants.{Clean, Refused}
 use Rattle.checks.specs.declared.Refusal.{Refusal}
 use Rattle.checks.specs.declared.Refusal.the-variants.{BadHeader, BadRecord, Unsorted}
-use Rattle.checks.specs.Check.{orElse, judge, judgeBody}
+use Rattle.checks.specs.Check.{judge, judgeBody}
 use Rattle.checks.proofs.CheckTurns.{Spot, Stopped}
 use Rattle.put.specs.Put.{over}
 use Rattle.put.proofs.Laws.{over-nil, over-twice}
 use Rattle.parts.specs.Parts.{editName}
-use Rattle.runs.specs.Runs.{Run, run, settles, atEnd, runsOf, untilFault, surveyed, marksOf}
+use Rattle.runs.specs.Runs.{Run, run, settles, atEnd, runsOf, surveyed, marksOf}
 
 pub marks-append : (a b : List Run) → marksOf (a ++ b) ≡ marksOf a ++ marksOf b
 marks-append [] b = refl
-marks-append (r ∷ a) b = ap (λ l. r .from ∷ r .to ∷ l) (marks-append a b)
+marks-append (run from to ∷ a) b = ap (λ l. from ∷ to ∷ l) (marks-append a b)
 
 pub length-marks : (l : List Run) → length (marksOf l) ≡ 2 * length l
 length-marks [] = refl
-length-marks (r ∷ l) = omega (arith, length-marks l)
+length-marks (run from to ∷ l) = omega (arith, length-marks l)
 
 -- a record settles no more edits than there are
 pub settles-le : (list name : List ℕ) (place next : ℕ) (ps : List ℕ) → length (settles list name place next ps) ≤ length ps
@@ -110,8 +111,8 @@ surveyed-clean n list place count last (i ∷ l) ps all e =
 
     go : (w : Reading) (name : List ℕ) (b : Bool) → smaller last name ≡ b
         → ((qs : List ℕ) (c : ℕ) → judge n next (suc count) name l ≡ Clean c → surveyed n list next name l qs ≡ runsOf n list next l qs)
-        → orElse w place (if (smaller last name) (judge n next (suc count) name l) (Refused (Unsorted place))) ≡ Clean all
-        → untilFault w (if (smaller last name) (here name ++ surveyed n list next name l (drop (length (here name)) ps)) [])
+        → decoded w (λ r. if (smaller last name) (judge n next (suc count) name l) (Refused (Unsorted place))) (λ f. Refused (BadRecord place f)) ≡ Clean all
+        → decoded w (λ r. if (smaller last name) (here name ++ surveyed n list next name l (drop (length (here name)) ps)) []) (λ f. [])
         ≡ here name ++ runsOf n list next l (drop (length (here name)) ps)
     go (Bad f) name b v later d = absurd (let z : _≡_ {A = ℕ} 0 1 = cc in omega arith)
     go (Good r) name false v later d = let x = rw v at d in absurd (let z : _≡_ {A = ℕ} 0 1 = cc in omega arith)

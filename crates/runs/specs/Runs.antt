@@ -6,17 +6,12 @@ use lib.Dec.{eqb}
 use lib.ListN.{getD, length, drop}
 use Rattle.parse.specs.Choice.{if}
 use Rattle.compare.specs.Order.{orderOf, smaller, byOrder}
-use Rattle.decode.specs.declared.reference.Reading.{Reading}
-use Rattle.decode.specs.declared.reference.Reading.the-variants.{Good, Bad}
+use Rattle.decode.specs.Record.{decoded}
 use Rattle.iter.specs.Items.{Item, nameOf}
 use Rattle.parts.specs.Parts.{editKind, editName}
 
-pub record Run : Type 0 where
-  pub from : ℕ
-  pub to : ℕ
-
-abbrev pub run : ℕ → ℕ → Run
-run from to = record { from = from; to = to }
+pub data Run : Type 0 where
+  run : (from to : ℕ) → Run
 
 -- the runs that a record settles. It has a name and reaches from a place to the next; ps are the places of edits in name order. An edit of a
 -- smaller name belongs in front of the record: its run is empty. An edit of the record's name replaces it: its run is the record. An edit of a
@@ -39,23 +34,18 @@ runsOf n list place (i ∷ l) ps =
     here ++ runsOf n list (place + length (i .bytes)) l (drop (length here) ps)
 
 -- the same up to the first fault of the check: behind it no edit gets a run
-abbrev pub untilFault : Reading → List Run → List Run
-untilFault (Good r) runs = runs
-untilFault (Bad f) runs = []
-
 abbrev pub surveyed : ℕ → List ℕ → ℕ → List ℕ → List Item → List ℕ → List Run
 surveyed n list place last [] ps = atEnd place ps
 surveyed n list place last (i ∷ l) ps =
     let here = settles list (nameOf n i) place (place + length (i .bytes)) ps in
-    untilFault (i .what)
-    (if (smaller last (nameOf n i))
-    (here ++ surveyed n list (place + length (i .bytes)) (nameOf n i) l (drop (length here) ps))
-    [])
+    decoded (i .what)
+    (λ r. if (smaller last (nameOf n i)) (here ++ surveyed n list (place + length (i .bytes)) (nameOf n i) l (drop (length here) ps)) [])
+    (λ f. [])
 
 -- the start and the end of each run, one after another
 abbrev pub marksOf : List Run → List ℕ
 marksOf [] = []
-marksOf (r ∷ l) = r .from ∷ r .to ∷ marksOf l
+marksOf (run from to ∷ l) = from ∷ to ∷ marksOf l
 
 -- no update, and every run is empty
 abbrev pub isStill : List ℕ → List ℕ → List ℕ → Bool

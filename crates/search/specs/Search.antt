@@ -9,7 +9,7 @@ use Rattle.compare.specs.declared.order.Order.the-variants.{Less, Equal, Greate
 use Rattle.class.specs.Class.{Classes}
 use Rattle.compare.specs.Order.{orderOf}
 use Rattle.probe.specs.declared.shape.Shape.{Shape}
-use Rattle.probe.specs.declared.shape.Shape.the-variants.{Name, Fails}
+use Rattle.probe.specs.declared.shape.Shape.the-variants.{NameLen, Fails}
 use Rattle.probe.specs.Shape.{shapeOf}
 use Rattle.probe.specs.RecordStart.{recordStart}
 use Rattle.search.specs.declared.Halved.{Halved}
@@ -20,11 +20,11 @@ use Rattle.search.specs.declared.Probed.{Probed}
 
 -- the name that stands behind n bytes and one more; "A shape that fails counts as an empty name"
 abbrev pub nameByShape : ℕ → List ℕ → Shape → List ℕ
-nameByShape n s (Name k) = take k (drop (n + 1) s)
+nameByShape n s (NameLen k) = take k (drop (n + 1) s)
 nameByShape n s Fails = []
 
 abbrev pub isFailure : Shape → Bool
-isFailure (Name k) = false
+isFailure (NameLen k) = false
 isFailure Fails = true
 
 unfoldable pub probedOf : Classes → ℕ → List ℕ → List ℕ → Probed

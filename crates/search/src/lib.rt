@@ -57,10 +57,10 @@ pub(crate) fn probe(t: &[u8; 256], n: usize, s: &[u8], wanted: &[u8]) -> Probed
     ensures { λ r. ⌜ r ≡ probedOf (classesOf (now (t .entry))) n (now (s .entry)) (now (wanted .entry)) ⌝ }
 {
     match probe::shape::name_at_record_start(t, s, n) {
-        Shape::Name(name) => {
+        Shape::NameLen(len) => {
             let from = n + 1;
             Probed {
-                order: compare::order::compare(parse::part::between(s, from, from + name), wanted),
+                order: compare::order::compare(parse::part::between(s, from, from + len), wanted),
                 failed: false,
             }
         }

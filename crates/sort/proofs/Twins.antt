@@ -10,10 +10,11 @@ use Rattle.parse.specs.Choice.{if}
 use Rattle.compare.specs.Order.{orderOf}
 use Rattle.compare.specs.declared.order.Order.{Order}
 use Rattle.compare.specs.declared.order.Order.the-variants.{Less, Equal, Greater}
-use Rattle.compare.proofs.Orders.{order-refl, order-equal, turned, order-turned, less-trans}
+use Rattle.compare.proofs.Orders.{order-refl, order-equal, isEqual, same-by-order, turned, order-turned, less-trans}
 use Rattle.sort.specs.declared.twin.Twin.the-variants.{At, Nothing}
-use Rattle.places.specs.Order.{isEqual, sameName, before}
-use Rattle.places.specs.Laws.{Ascending, NamesRise, AllDifferent, HasTwin}
+use Rattle.places.specs.Order.{before}
+use Rattle.compare.specs.Prefix.{same}
+use Rattle.places.specs.Laws.{Ordered, NamesRise, AllDifferent, HasTwin}
 use Rattle.sort.specs.Twin.{twinBehind, firstTwin}
 use Rattle.sort.proofs.Orders.{NotAfter}
 use Rattle.sort.proofs.Pairs.{each-map, Pairs, pairs-at, pairs-by}
@@ -33,7 +34,7 @@ module _ (name : ℕ → List ℕ) where
 
   pub twin-at : (l : List ℕ) (i : ℕ) → 0 < i → i < length l
       → firstTwin name (drop (i - 1) l)
-      ≡ if (sameName (name (getD l (i - 1) 0)) (name (getD l i 0))) (At (getD l i 0)) (firstTwin name (drop i l))
+      ≡ if (same (name (getD l (i - 1) 0)) (name (getD l i 0))) (At (getD l i 0)) (firstTwin name (drop i l))
   unfolding firstTwin
   twin-at l zero h k = absurd (omega arith)
   twin-at l (suc i) h k =
@@ -44,7 +45,7 @@ module _ (name : ℕ → List ℕ) where
 
   twin-behind : (p : ℕ) (l : List ℕ) (q : ℕ) → twinBehind name p l ≡ At q → HasTwin name (p ∷ l) q
   twin-behind p [] q found = absurd (let z : _≡_ {A = ℕ} 0 1 = cc in omega arith)
-  twin-behind p (r ∷ l) q found = go (twin-behind r l q) (orderOf (name p) (name r)) refl found
+  twin-behind p (r ∷ l) q found = go (twin-behind r l q) (orderOf (name p) (name r)) refl (rw (same-by-order (name p) (name r)) at found)
     where
       on : HasTwin name (r ∷ l) q → HasTwin name (p ∷ r ∷ l) q
       on t =
@@ -72,7 +73,7 @@ module _ (name : ℕ → List ℕ) where
 
   rising : (p : ℕ) (l : List ℕ) → Pairs (NotAfter (before name)) (p ∷ l) → twinBehind name p l ≡ Nothing → Pairs Rises (p ∷ l)
   rising p [] s none = (tt, tt)
-  rising p (q ∷ l) s none = go (rising q l (s .1)) (orderOf (name p) (name q)) refl none
+  rising p (q ∷ l) s none = go (rising q l (s .1)) (orderOf (name p) (name q)) refl (rw (same-by-order (name p) (name q)) at none)
     where
       go : (twinBehind name q l ≡ Nothing → Pairs Rises (q ∷ l)) → (o : Order) → orderOf (name p) (name q) ≡ o
           → if (isEqual o) (At q) (twinBehind name q l) ≡ Nothing
@@ -90,10 +91,10 @@ module _ (name : ℕ → List ℕ) where
   all-rising [] s none = tt
   all-rising (p ∷ l) s none = rising p l s none
 
-  pub names-rise : (l : List ℕ) → Ascending (before name) l → firstTwin name l ≡ Nothing → NamesRise name l
+  pub names-rise : (l : List ℕ) → Ordered (before name) l → firstTwin name l ≡ Nothing → NamesRise name l
   names-rise l s none = pairs-at Rises l (all-rising l (pairs-by (NotAfter (before name)) l s) none)
 
-  pub all-different : (l : List ℕ) → Ascending (before name) l → firstTwin name l ≡ Nothing → AllDifferent name l
+  pub all-different : (l : List ℕ) → Ordered (before name) l → firstTwin name l ≡ Nothing → AllDifferent name l
   all-different l s none i j h k e =
       let less = names-rise l s none i j h k in
       let level = ap (orderOf (name (getD l i 0))) (sym e) ∙ order-refl (name (getD l i 0)) in

@@ -7,15 +7,15 @@ use lib.ListN.{length}
 use Rattle.class.specs.Class.{Classes}
 use Rattle.header.specs.declared.Opened.{Opened}
 use Rattle.header.specs.declared.Opened.the-variants.{Header, Unreadable}
-use Rattle.header.specs.Header.{headerOf}
+use Rattle.header.specs.Header.{headerOf, headed}
 use Rattle.header.proofs.Headers.{body-inside}
-use Rattle.start.specs.declared.Start.the-variants.{At}
-use Rattle.start.specs.Start.{startBy, startOf}
+use Rattle.start.specs.declared.Start.the-variants.{At, BadHeader}
+use Rattle.start.specs.Start.{firstItem, startOf}
 
 pub start-inside : (byte : Classes) (s : List ℕ) {place item : ℕ} → startOf byte s ≡ At place item → place ≤ length s
 unfolding startOf
 start-inside byte s {place} {item} e = go (headerOf byte s) refl e
   where
-    go : (o : Opened) → headerOf byte s ≡ o → startBy s o ≡ At place item → place ≤ length s
+    go : (o : Opened) → headerOf byte s ≡ o → headed o (λ h. At (h .body) (firstItem s)) (λ text. BadHeader text) ≡ At place item → place ≤ length s
     go (Header h) q f = let z : h .body ≡ place = cc in omega (arith, body-inside byte s h q)
     go (Unreadable k) q f = absurd (let z : _≡_ {A = ℕ} 0 1 = cc in omega arith)

@@ -6,9 +6,7 @@ use lib.ListN.{length, getD}
 use Rattle.parse.specs.Choice.{if}
 use Rattle.class.specs.Class.{Classes, paper}
 use Rattle.parse.specs.Limit.{admission, admit}
-use Rattle.header.specs.declared.Opened.{Opened}
-use Rattle.header.specs.declared.Opened.the-variants.{Header, Unreadable}
-use Rattle.header.specs.Header.{headerOf}
+use Rattle.header.specs.Header.{headerOf, headed}
 use Rattle.start.specs.declared.Start.{Start}
 use Rattle.start.specs.declared.Start.the-variants.{At, BadHeader}
 use Rattle.start.specs.declared.StartAnswer.{StartAnswer}
@@ -18,12 +16,9 @@ use Rattle.start.specs.declared.StartAnswer.the-variants.{Done, UnknownK
 unfoldable pub firstItem : List ℕ → ℕ
 firstItem s = if (eqb (getD s 0 0) 35) 2 1
 
-abbrev pub startBy : List ℕ → Opened → Start
-startBy s (Header h) = At (h .body) (firstItem s)
-startBy s (Unreadable k) = BadHeader k
-
+-- behind the header, or at the front of bytes that have none; or number 2
 unfoldable pub startOf : Classes → List ℕ → Start
-startOf byte s = startBy s (headerOf byte s)
+startOf byte s = headed (headerOf byte s) (λ h. At (h .body) (firstItem s)) (λ text. BadHeader text)
 
 -- with the kind's number first, then the size limit
 unfoldable pub startAnswer : ℕ → List ℕ → StartAnswer

@@ -8,7 +8,7 @@ use parse::limit::Admission;
 pub enum Start {
     // The place behind the header, and the first item's number.
     At { place: usize, item: u64 },
-    // A first line that begins with # and is no header: the length of its text.
+    // A first line that begins with # but can't be read as a header: the length of its text.
     BadHeader(usize),
 }
 

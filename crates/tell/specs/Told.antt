@@ -1,4 +1,4 @@
--- Where the parts of a record stand, counted where its start is counted; a refusal and what stands beside its number.
+-- Where the parts of a record stand in the bytes in which its own place is counted; and what stands beside a refusal's number.
 use mathlib.Core.Bool.{_||_}
 use Prim.Native.Nat.{ℕ, _+_, _≤_}
 use lib.Dec.{eqb}
@@ -24,20 +24,21 @@ idLen Unknown = 0
 unfoldable pub nameAt : ℕ → ℕ → ℕ
 nameAt kind place = place + idLen (digitsOf kind) + 1
 
--- the peeled id stands at a place of the record that is not 0, if it has one
+-- 0 where the record has no peeled id; else its place in the record, which is never 0
 unfoldable pub peeledAt : ℕ → ℕ → ℕ
 peeledAt place peeled = if (eqb peeled 0) 0 (place + peeled)
 
-abbrev pub partsGive : ℕ → ℕ → ℕ → Parts
-partsGive name len peeled = record { «name_at» = name; «name_len» = len; «peeled_at» = peeled }
+-- where there is no record
+abbrev pub noParts : Parts
+noParts = record { «name_at» = 0; «name_len» = 0; «peeled_at» = 0 }
 
 -- the parts of a record that starts at a place
 abbrev pub partsOf : ℕ → ℕ → Record → Parts
-partsOf kind place r = partsGive (nameAt kind place) (r .«name_len») (peeledAt place (r .peeled))
+partsOf kind place r = record { «name_at» = nameAt kind place; «name_len» = r .«name_len»; «peeled_at» = peeledAt place (r .peeled) }
 
--- what is told of them: beyond the size limit, nothing
+-- what the function that tells them promises the replies: beyond the size limit, nothing
 unfoldable pub partsTold : ℕ → ℕ → Record → Parts
-partsTold kind place r = if (overLimit place || overLimit (r .peeled)) (partsGive 0 0 0) (partsOf kind place r)
+partsTold kind place r = if (overLimit place || overLimit (r .peeled)) noParts (partsOf kind place r)
 
 -- a record that starts at a place, and its peeled id, stand under the size limit, as they do in lent bytes: its parts are told as they are
 -- (`told-near`, proofs/Near.antt)
@@ -46,15 +47,17 @@ Near place r = (place ≤ 1073741824) × (r .peeled ≤ 1073741824)
 
 -- ---- a refusal
 
--- "Beside the number, check and merge give the item's place in the lent file for 4 and 6, .. and 2 its text; nothing else is given with a
--- refusal."
-abbrev pub refusalGives : ℕ → ℕ → ℕ → Numbered
-refusalGives number place textLen = record { number = number; place = place; «text_len» = textLen }
+-- "Beside the number, check and merge give the item's place in the lent file for 4 and 6, .."
+abbrev pub refusalPlace : Refusal → ℕ
+refusalPlace (BadHeader text) = 0
+refusalPlace (BadRecord place f) = place
+refusalPlace (Unsorted place) = place
 
-abbrev pub refusalBeside : ℕ → Refusal → Numbered
-refusalBeside number (BadHeader text) = refusalGives number 0 text
-refusalBeside number (BadRecord place f) = refusalGives number place 0
-refusalBeside number (Unsorted place) = refusalGives number place 0
+-- ".. and 2 its text; nothing else is given with a refusal."
+abbrev pub refusalText : Refusal → ℕ
+refusalText (BadHeader text) = text
+refusalText (BadRecord place f) = 0
+refusalText (Unsorted place) = 0
 
 abbrev pub refusalTold : Refusal → Numbered
-refusalTold why = refusalBeside (refusalNumber why) why
+refusalTold why = record { number = refusalNumber why; place = refusalPlace why; «text_len» = refusalText why }

@@ -2,13 +2,13 @@
 ghost use mathlib.Core.Path.{_≡_};
 ghost use Prim.Native.Nat.{_≤_};
 ghost use Rattle.decode.specs.Record.{faultNumber};
-ghost use Rattle.tell.specs.Told.{nameAt, peeledAt, partsGive, partsTold, refusalGives, refusalTold};
+ghost use Rattle.tell.specs.Told.{nameAt, peeledAt, noParts, partsTold, refusalTold};
 use checks::Refusal;
 use decode::reference::Fault;
 use decode::reference::Record;
 use parse::limit::IdKind;
 
-// Where the parts of a record stand, counted where its start is counted.
+// Where the parts of a record stand, in the bytes in which its own place is counted.
 pub struct Parts {
     pub name_at: usize,
     pub name_len: usize,
@@ -22,25 +22,26 @@ pub fn parts_at(kind: u32, place: usize, found: Record) -> Parts
     ensures { λ r. ⌜ r ≡ partsTold kind place found ⌝ }
 {
     if parse::limit::over_limit(place) {
-        return parts_give(0, 0, 0);
+        return no_parts();
     }
     if parse::limit::over_limit(found.peeled) {
-        return parts_give(0, 0, 0);
+        return no_parts();
     }
-    parts_give(
-        name_at(kind, place),
-        found.name_len,
-        peeled_at(place, found.peeled),
-    )
+    Parts {
+        name_at: name_at(kind, place),
+        name_len: found.name_len,
+        peeled_at: peeled_at(place, found.peeled),
+    }
 }
 
-fn parts_give(name: usize, len: usize, peeled: usize) -> Parts
-    ensures { λ r. ⌜ r ≡ partsGive name len peeled ⌝ }
+// Where there is no record.
+pub fn no_parts() -> Parts
+    ensures { λ r. ⌜ r ≡ noParts ⌝ }
 {
     Parts {
-        name_at: name,
-        name_len: len,
-        peeled_at: peeled,
+        name_at: 0,
+        name_len: 0,
+        peeled_at: 0,
     }
 }
 
@@ -84,8 +85,8 @@ pub fn refusal(why: Refusal) -> Numbered
     }
 }
 
-pub fn refusal_gives(number: u32, place: usize, text: usize) -> Numbered
-    ensures { λ r. ⌜ r ≡ refusalGives number place text ⌝ }
+fn refusal_gives(number: u32, place: usize, text: usize) -> Numbered
+    ensures { λ r. ⌜ r ≡ record { number = number; place = place; «text_len» = text } ⌝ }
 {
     Numbered {
         number,

@@ -59,6 +59,12 @@ pub fn shim(dir: &Dir, source: &str) -> String {
     shim
 }
 
+/// Runs the program while something happens, by a line of shell; when, meanwhile.c says.
+pub fn meanwhile(dir: &Dir, when: &str, line: &str, args: &[&str]) -> Ran {
+    let line = format!("export LD_PRELOAD='{}' MEANWHILE_{when} MEANWHILE_DO=\"{line}\"; exec \"$@\"", shim(dir, "meanwhile.c"));
+    shell(&line, args)
+}
+
 pub fn id(digit: char) -> String {
     digit.to_string().repeat(40)
 }

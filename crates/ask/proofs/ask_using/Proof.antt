@@ -1,5 +1,5 @@
 -- `ask::ask_using` meets its contract.
-use mathlib.Core.Path.{_≡_, sym, _∙_}
+use mathlib.Core.Path.{sym, _∙_}
 use borrow.Author.Tests.{not-true, not-false}
 use Rattle.ask.specs.Ask.{askOf}
 use borrow.Author.Needs.{needs}

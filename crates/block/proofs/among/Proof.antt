@@ -1,7 +1,6 @@
 -- `block::among` meets its contract: what was met so far is said of the bytes passed.
 use mathlib.Core.Path.{_≡_, refl, ap, _∙_}
 use Prim.Native.Nat.{_-_, _≤_}
-use native.Mathlib.Omega.{arith}
 use lib.ListN.{take, drop}
 use Rattle.block.specs.Among.{among}
 use Rattle.block.proofs.Members.{among-turn}

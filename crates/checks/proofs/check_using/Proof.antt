@@ -1,5 +1,5 @@
 -- `checks::check_using` meets its contract.
-use mathlib.Core.Path.{_≡_, sym, _∙_}
+use mathlib.Core.Path.{sym, _∙_}
 use Rattle.checks.specs.Check.{checkOf}
 use borrow.Author.Needs.{needs}
 use Rattle.checks.proofs.check_using.Statement.{statement}

@@ -58,13 +58,13 @@ module _ (v : tie.After-is-valid-using) where
   valid-is = ap (validName (byte its-start)) (sym (v .before .edit-name .ensures)) ∙ sym (v .is-valid-using .ensures)
 
 returns : tie.Need-returns
-returns c = let b = c .before .before in let a = b .args in sym (empty-name (byte b) (s b) (a .kind) (a .from) (a .len) (a .ids) (c .if1 .taken))
+returns c = let b = c .before .before in let a = b .args in sym (empty-name (byte b) (s b) (a .from) (a .len) (a .ids) (c .if1 .taken))
 
 returns-2 : tie.Need-returns-2
 returns-2 c =
     let b = c .before .before .before in
     let a = b .args in
-    sym (long-name (byte b) (s b) (a .kind) (a .from) (a .len) (a .ids) (c .if2 .taken))
+    sym (long-name (byte b) (s b) (a .from) (a .len) (a .ids) (c .if2 .taken))
 
 stands-requires : tie.Need-stands-requires
 stands-requires c κs = search needs
@@ -75,7 +75,7 @@ returns-3 c =
     let b = start e in
     let a = b .args in
     sym
-    (cut-short (byte b) (s b) (a .kind) (a .from) (a .len) (a .ids) (e .before .if1 .left) (e .if2 .left)
+    (cut-short (byte b) (s b) (a .from) (a .len) (a .ids) (e .before .if1 .left) (e .if2 .left)
     (sym (c .before .stands .ensures) ∙ not-true _ (c .if3 .taken)))
 
 edit-name-requires : tie.Need-edit-name-requires
@@ -91,7 +91,7 @@ returns-4 c =
     let b = start e in
     let a = b .args in
     sym
-    (bad-name (byte b) (s b) (a .kind) (a .from) (a .len) (a .ids) (e .before .if1 .left) (e .if2 .left) (stands (full v))
+    (bad-name (byte b) (s b) (a .from) (a .len) (a .ids) (e .before .if1 .left) (e .if2 .left) (stands (full v))
     (valid-is v ∙ not-true _ (c .if4 .taken)))
 
 add-size : tie.Need-add-size
@@ -107,7 +107,7 @@ returns-5 c =
     let b = start e in
     let a = b .args in
     sym
-    (good-name (byte b) (s b) (a .kind) (a .from) (a .len) (a .ids) (e .before .if1 .left) (e .if2 .left) (stands (full v))
+    (good-name (byte b) (s b) (a .from) (a .len) (a .ids) (e .before .if1 .left) (e .if2 .left) (stands (full v))
     (valid-is v ∙ not-false _ (c .if4 .left)))
 
 pub behind-length-spec : {M : Type 1} → statement M

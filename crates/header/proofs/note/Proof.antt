@@ -1,5 +1,5 @@
 -- `header::note` meets its contract.
-use mathlib.Core.Path.{_≡_, sym, _∙_}
+use mathlib.Core.Path.{sym, _∙_}
 use Rattle.header.specs.Header.{noted}
 use borrow.Author.Needs.{needs}
 use Rattle.header.proofs.note.Statement.{statement}

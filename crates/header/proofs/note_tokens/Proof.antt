@@ -1,10 +1,9 @@
 -- `header::note_tokens` meets its contract: what the tokens from a place on say comes on top of what was noted.
-use mathlib.Core.Path.{_≡_, refl, sym, ap, _∙_}
+use mathlib.Core.Path.{_≡_, refl, ap, _∙_}
 use Prim.Native.Nat.{_+_, _-_, _≤_}
-use native.Mathlib.Omega.{arith}
 use lib.ListN.{length, drop}
 use Rattle.header.specs.Header.{tokens, noted, allNoted}
-use Rattle.header.proofs.Tokens.{token-inside, noted-last, noted-first}
+use Rattle.header.proofs.Tokens.{noted-last, noted-first}
 use borrow.Author.Needs.{needs}
 use Rattle.header.proofs.note_tokens.Statement.{statement}
 use Rattle.header.proofs.note_tokens.Tie as tie

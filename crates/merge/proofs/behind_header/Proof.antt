@@ -1,18 +1,20 @@
 -- `merge::behind_header` meets its contract: the file that is spliced from the runs is the new file.
-use mathlib.Core.Path.{_≡_, refl, sym, ap, _∙_}
+use mathlib.Core.Path.{_≡_, sym, ap, _∙_}
 use mathlib.Core.List.{List, []}
 use Prim.Native.Nat.{ℕ, _*_, _≤_}
 use lib.ListN.{length, drop}
 use Rattle.class.specs.Class.{paper}
 use Rattle.class.proofs.Classes.{by-paper}
+use Rattle.decode.specs.Entry.{Entry}
+use Rattle.iter.specs.Entries.{entriesOf}
 use Rattle.checks.specs.Check.{judgeBody}
 use Rattle.iter.specs.Items.{items}
-use Rattle.lines.specs.Lines.{Entry}
-use Rattle.merge.specs.Entry.{Override, entriesOf, editsAt}
+use Rattle.merge.specs.Override.{Override, editsAt}
 use Rattle.put.specs.Put.{over}
-use Rattle.merge.specs.Merge.{judgedBy, outputBy}
+use Rattle.merge.specs.Merge.{newFile, judgedBy, outputBy}
 use Rattle.runs.specs.Runs.{surveyed, marksOf}
 use Rattle.runs.proofs.RunTurns.{surveyed-body}
+use Rattle.merge.proofs.Answers.{old-refused}
 use Rattle.merge.proofs.Finished.{finished-is}
 use Rattle.merge.proofs.IdleRuns.{idle-is-still}
 use Rattle.merge.proofs.NewFile.{spliced-is-new}
@@ -79,7 +81,7 @@ returns c =
     ∙ by-paper (λ byte. over fresh 0 (marksOf (surveyed (a .n) (a .list .now) (a .body) [] (items byte (a .n) (drop (a .body) (a .old .now))) (a .index .now)))) (start v .pre .0)
     ∙ ap (λ l. over fresh 0 (marksOf l)) (surveyed-body paper (a .n) (a .old .now) (a .list .now) (a .body) (a .index .now) count clean) in
     let new = spliced-is-new (a .n) (a .old .now) (a .body) (a .list .now) (a .index .now) fresh marked count clean (enough v) marks in
-    let still = idle-is-still (a .n) (a .old .now) (a .list .now) (a .body) count (a .index .now) fresh marked clean (start v .pre .5) (enough v) marks in (
+    let still = idle-is-still (a .n) (a .old .now) (a .list .now) (a .body) count (a .index .now) fresh marked clean (start v .pre .2) (enough v) marks in (
       f .finish .ensures .0 ∙ finished-is _ _ (olds v) (edits v) (room v) still new ∙ ap (judgedBy (olds v) (edits v) (room v)) (sym clean),
       f .finish .ensures .1 ∙ ap (λ x. outputBy x (a .out .now) (f .finish .result)) new,
     )
@@ -87,7 +89,7 @@ returns c =
 returns-2 : tie.Need-returns-2
 returns-2 c =
     let v = c .before .before .before .before in
-    (ap (judgedBy (olds v) (edits v) (room v)) (sym (verdict-is v ∙ c .before .why .given .1)), refl)
+    (ap (judgedBy (olds v) (edits v) (room v)) (sym (verdict-is v ∙ c .before .why .given .1)), sym (old-refused (newFile (olds v) (edits v)) (start v .args .out .now) (c .before .why .given .0 .0)))
 
 pub behind-header-spec : {M : Type 1} → statement M
 behind-header-spec =

@@ -5,7 +5,7 @@ use mathlib.Core.List.{List, [], _++_}
 use Prim.Native.Nat.{ℕ, _≤_, min}
 use native.Mathlib.Nat.{zero-add}
 use native.Mathlib.Omega.{arith}
-use lib.ListN.{length, drop}
+use lib.ListN.{length}
 use Rattle.put.specs.Put.{over, placeBehind}
 use Rattle.put.proofs.Laws.{over-beyond, over-fits, place-behind}
 use Rattle.lines.specs.Lines.{headerLine}
@@ -122,7 +122,7 @@ returns-4 c =
     let room : length (new k) ≤ length (out k) = omega (arith, length-is, ap length (untouched w), e .if3 .left) in
     let written = v .write2 .ensures .1 ∙ (λ i. over (untouched w i) 0 (under w (header-is w i))) ∙ over-fits (out k) (new k) room in (
       ap Done length-is ∙ sym (all-done headerLine (still k) (new k) (length (out k)) (moves w) (λ z. e .before .if2 .left (length-is ∙ z)) room),
-      written ∙ ap (λ j. new k ++ drop j (out k)) (sym length-is),
+      written,
     )
 
 pub finish-spec : {M : Type 1} → statement M

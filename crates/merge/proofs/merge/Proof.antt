@@ -1,10 +1,8 @@
--- `merge::merge` meets its contract: 1 and 17 first, and the table is made.
-use mathlib.Core.Path.{_≡_, sym, ap, _∙_}
+-- `merge::merge` meets its contract: 1 and 17 first.
+use mathlib.Core.Path.{_≡_, sym, _∙_}
 use lib.ListN.{length}
 use Rattle.parse.specs.Limit.{admission}
-use Rattle.class.specs.Class.{paper}
-use Rattle.merge.specs.Merge.{newFile, oldEntries, editsInOrder, outputBy, mergeAnswer, indexAnswer, outputAfter}
-use Rattle.parse.proofs.Admitted.{admitted}
+use Rattle.merge.specs.Merge.{mergeAnswer, indexAnswer, outputAfter}
 use borrow.Author.Needs.{needs}
 use Rattle.merge.proofs.merge.Statement.{statement}
 use Rattle.merge.proofs.merge.Tie as tie
@@ -23,16 +21,8 @@ admit-requires c κs = search needs
 enum-known-n : tie.Need-enum-known-n
 enum-known-n c = search needs
 
-table-requires : tie.Need-table-requires
-table-requires c κs = search needs
-
-merge-using-requires : tie.Need-merge-using-requires
-merge-using-requires c κs =
-    let k = c .before .before .before .before .before in
-    let a = k .before .before in
-    let s = start a .args in
-    let is = admitted (s .kind) (length (s .old .now)) (length (s .list .now)) (k .n .given .0 .0) (said a ∙ k .n .given .1) in
-    (c .before .before .before .table .ensures, is .0, is .1, is .2)
+merge-with-digits-requires : tie.Need-merge-with-digits-requires
+merge-with-digits-requires c κs = search needs
 
 enum-told : tie.Need-enum-told
 enum-told c = search needs
@@ -50,12 +40,9 @@ returns : tie.Need-returns
 unfolding mergeAnswer indexAnswer outputAfter
 returns c =
     let m = c .before .before .before .before in
-    let k = m .before .before .before .before .before .before in
+    let k = m .before .before .before .before in
     let is = said (k .before .before) ∙ k .n .given .1 in
-    let s = start (k .before .before) .args in
-    let n = k .n .given .0 .0 in
-    let new = newFile (oldEntries paper n (s .old .now)) (editsInOrder paper n (s .old .now) (s .list .now)) in
-    (rw is (m .merge-using .ensures .0), (rw is (m .merge-using .ensures .1 .0), rw is (m .merge-using .ensures .1 .1 ∙ ap (outputBy new (s .out .now)) (m .merge-using .ensures .0))))
+    (rw is (m .merge-with-digits .ensures .0), (rw is (m .merge-with-digits .ensures .1 .0), rw is (m .merge-with-digits .ensures .1 .1)))
 
 returns-2 : tie.Need-returns-2
 unfolding mergeAnswer indexAnswer outputAfter
@@ -75,8 +62,7 @@ merge-spec =
     (tie.spec
     admit-requires
     enum-known-n
-    table-requires
-    merge-using-requires
+    merge-with-digits-requires
     enum-told
     enum-told-2
     same-length

@@ -5,7 +5,7 @@ use lib.ListN.{length}
 use Rattle.class.specs.Class.{paper}
 use Rattle.class.proofs.Classes.{by-paper}
 use Rattle.header.specs.Header.{headerOf}
-use Rattle.merge.specs.Entry.{Override, editsAt}
+use Rattle.merge.specs.Override.{Override, editsAt}
 use Rattle.merge.specs.Merge.{newFile, outputBy}
 use Rattle.merge.proofs.Ready.{bad-header, old-entries, good-header}
 use borrow.Author.Needs.{needs}

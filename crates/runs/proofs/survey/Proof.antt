@@ -1,4 +1,4 @@
--- `runs::survey` meets its contract: the check goes as in `iter`, and beside it each record settles its edits.
+-- `runs::survey` meets its contract: the check goes as in `checks`, and beside it each record settles its edits.
 use mathlib.Core.Path.{_≡_, refl, sym, ap, _∙_}
 use mathlib.Core.List.{List, []}
 use Prim.Native.Nat.{ℕ, _+_, _*_, _-_, _≤_}

@@ -15,20 +15,20 @@ use Rattle.search.proofs.probe.Tie as tie
 name-at-record-start-requires : tie.Need-name-at-record-start-requires
 name-at-record-start-requires c κs = search needs
 
-enum-known-name : tie.Need-enum-known-name
-enum-known-name c = search needs
+enum-known-len : tie.Need-enum-known-len
+enum-known-len c = search needs
 
 add-from : tie.Need-add-from
 add-from c =
     let k = c .before .before .before in
     let a = k .before .before .before .args in
-    omega (arith, shape-fits (classesOf (a .t .now)) (a .n) (a .s .now) (c .before .name .given .0 .0) (sym (k .name-at-record-start .ensures) ∙ c .before .name .given .1))
+    omega (arith, shape-fits (classesOf (a .t .now)) (a .n) (a .s .now) (c .before .len .given .0 .0) (sym (k .name-at-record-start .ensures) ∙ c .before .len .given .1))
 
 add-between : tie.Need-add-between
 add-between c =
     let k = c .before .before .before in
     let a = k .before .before .before .args in
-    omega (arith, shape-fits (classesOf (a .t .now)) (a .n) (a .s .now) (c .before .name .given .0 .0) (sym (k .name-at-record-start .ensures) ∙ c .before .name .given .1))
+    omega (arith, shape-fits (classesOf (a .t .now)) (a .n) (a .s .now) (c .before .len .given .0 .0) (sym (k .name-at-record-start .ensures) ∙ c .before .len .given .1))
 
 between-requires : tie.Need-between-requires
 between-requires c κs = search needs
@@ -57,12 +57,12 @@ returns c =
     let f = c .before .before .before in
     let k = f .before .before in
     let a = k .before .before .before .args in
-    let name = f .name .given .0 .0 in
-    let z : a .n + 1 + name - (a .n + 1) ≡ name = omega arith in
+    let len = f .len .given .0 .0 in
+    let z : a .n + 1 + len - (a .n + 1) ≡ len = omega arith in
     let order =
     c .compare .ensures
     ∙ ap (λ w. orderOf w (a .wanted .now)) (c .before .between .ensures ∙ ap (λ m. take m (drop (a .n + 1) (a .s .now))) z) in
-    rw (sym (k .name-at-record-start .ensures) ∙ f .name .given .1) (λ i. record { order = order i; failed = false })
+    rw (sym (k .name-at-record-start .ensures) ∙ f .len .given .1) (λ i. record { order = order i; failed = false })
 
 returns-2 : tie.Need-returns-2
 unfolding probedOf
@@ -75,7 +75,7 @@ probe-spec =
     tie.close
     (tie.spec
     name-at-record-start-requires
-    enum-known-name
+    enum-known-len
     add-from
     add-between
     between-requires

@@ -1,5 +1,5 @@
 -- `start::begin_using` meets its contract.
-use mathlib.Core.Path.{_≡_, sym, ap, _∙_}
+use mathlib.Core.Path.{sym, ap, _∙_}
 use Rattle.start.specs.declared.Start.the-variants.{At}
 use Rattle.start.specs.Start.{startOf}
 use borrow.Author.Needs.{needs}

@@ -22,24 +22,24 @@ module _ (a : tie.After-name-at) where
 over-limit-requires : tie.Need-over-limit-requires
 over-limit-requires c κs = search needs
 
-parts-give-requires : tie.Need-parts-give-requires
-parts-give-requires c κs = search needs
+no-parts-requires : tie.Need-no-parts-requires
+no-parts-requires c κs = search needs
 
 returns : tie.Need-returns
 unfolding partsTold
-returns c = rw (sym (c .before .before .over-limit .ensures) ∙ c .before .if1 .taken) (c .parts-give .ensures)
+returns c = rw (sym (c .before .before .over-limit .ensures) ∙ c .before .if1 .taken) (c .no-parts .ensures)
 
 over-limit-requires-2 : tie.Need-over-limit-requires-2
 over-limit-requires-2 c κs = search needs
 
-parts-give-requires-2 : tie.Need-parts-give-requires-2
-parts-give-requires-2 c κs = search needs
+no-parts-requires-2 : tie.Need-no-parts-requires-2
+no-parts-requires-2 c κs = search needs
 
 returns-2 : tie.Need-returns-2
 unfolding partsTold
 returns-2 c =
     let e = c .before .before .before in
-    rw (sym (e .before .over-limit .ensures) ∙ e .if1 .left, sym (c .before .before .over-limit2 .ensures) ∙ c .before .if2 .taken) (c .parts-give2 .ensures)
+    rw (sym (e .before .over-limit .ensures) ∙ e .if1 .left, sym (c .before .before .over-limit2 .ensures) ∙ c .before .if2 .taken) (c .no-parts2 .ensures)
 
 name-at-requires : tie.Need-name-at-requires
 unfolding overLimit
@@ -49,24 +49,20 @@ peeled-at-requires : tie.Need-peeled-at-requires
 unfolding overLimit
 peeled-at-requires c κs = (ltb-false 1073741824 _ (place-under c), ltb-false 1073741824 _ (peeled-under c))
 
-parts-give-requires-3 : tie.Need-parts-give-requires-3
-parts-give-requires-3 c κs = search needs
-
 returns-3 : tie.Need-returns-3
 unfolding partsTold
-returns-3 c = let a = c .before .before in rw (place-under a, peeled-under a, ← a .name-at .ensures, ← c .before .peeled-at .ensures) (c .parts-give3 .ensures)
+returns-3 c = let a = c .before in rw (place-under a, peeled-under a, a .name-at .ensures, c .peeled-at .ensures)
 
 pub parts-at-spec : {M : Type 1} → statement M
 parts-at-spec =
     tie.close
     (tie.spec
     over-limit-requires
-    parts-give-requires
+    no-parts-requires
     returns
     over-limit-requires-2
-    parts-give-requires-2
+    no-parts-requires-2
     returns-2
     name-at-requires
     peeled-at-requires
-    parts-give-requires-3
     returns-3)

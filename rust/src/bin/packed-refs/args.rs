@@ -138,7 +138,7 @@ pub const CHOICES: &[Choice] = &[
         short: None,
         value: None,
         of: &[],
-        about: "answers as lines of JSON, as docs/JSON.md has them; merge then wants -o",
+        about: "answers as lines of JSON, as JSON.md has them; merge then wants -o",
         set: |settings, _| on(&mut settings.json),
     },
     Choice {

@@ -30,7 +30,7 @@ exit status:
   1   absent; merge: nothing to do
   2   no answer: unreadable or refused, for a reason given on standard error. Do not send.
   64  wrong usage
-With several names the worst answer decides. docs/NUMBERS.md explains the numbers.
+With several names the worst answer decides. NUMBERS.md explains the numbers.
 ";
 
 pub fn all() -> String {

@@ -207,7 +207,7 @@ fn changes(path: &OsStr) -> Refusal {
 fn refusal(path: &OsStr, error: &OpenError) -> Refusal {
     let name = shown(path);
     let (words, number) = match error.trouble() {
-        OpenTrouble::NotThere => return not_there(path),
+        OpenTrouble::NotThere => (format!("{name} is not there. Do not send. See whether the right file was named."), None),
         OpenTrouble::Unreadable(error) => (format!("{name} can't be read: {error}. Do not send."), None),
         OpenTrouble::Empty => (
             format!(

@@ -1,14 +1,10 @@
 -- `compare::order::by_one` meets its contract: the order from i on is the order from the start on.
-use mathlib.Core.Bool.{Bool, true, false}
-use borrow.Author.Count.{below-none, below-more}
-use borrow.Author.Tests.{eqb-true}
-use lib.Dec.{eqb}
 use Rattle.compare.specs.Order.{orderOf}
-use Rattle.compare.proofs.Orders.{both-end, first-ends, second-ends, smaller, greater, alike, skip, first-false, second-true}
-use mathlib.Core.Path.{_≡_, refl, sym, ap, _∙_}
-use Prim.Native.Nat.{ℕ, _+_, _*_, _-_, _/_, _%_, _≤_, _<_}
+use Rattle.compare.proofs.Orders.{both-end, first-ends, second-ends, smaller, greater, alike}
+use mathlib.Core.Path.{_≡_, refl, sym, _∙_}
+use Prim.Native.Nat.{_-_}
 use native.Mathlib.Omega.{arith}
-use lib.ListN.{length, getD, take, drop}
+use lib.ListN.{length, drop}
 use borrow.Author.Needs.{needs}
 use Rattle.compare.proofs.order.by_one.Statement.{statement}
 use Rattle.compare.proofs.order.by_one.Tie as tie

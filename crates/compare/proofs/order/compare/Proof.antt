@@ -1,10 +1,9 @@
 -- `compare::order::compare` meets its contract: sixteen bytes that are alike are skipped, the rest goes byte by byte.
 use Rattle.compare.specs.Order.{orderOf}
 use Rattle.compare.proofs.Orders.{skip}
-use mathlib.Core.Path.{_≡_, refl, sym, ap, _∙_}
-use Prim.Native.Nat.{ℕ, _+_, _*_, _-_, _/_, _%_, _≤_, _<_}
-use native.Mathlib.Omega.{arith}
-use lib.ListN.{length, getD, take, drop}
+use mathlib.Core.Path.{_≡_, refl, sym, _∙_}
+use Prim.Native.Nat.{_-_}
+use lib.ListN.{drop}
 use borrow.Author.Needs.{needs}
 use Rattle.compare.proofs.order.compare.Statement.{statement}
 use Rattle.compare.proofs.order.compare.Tie as tie

@@ -1,14 +1,13 @@
 -- `compare::order::differ16` meets its contract: while nothing differed, the bytes passed are alike.
-use mathlib.Core.Bool.{Bool, true, false}
+use mathlib.Core.Bool.{false}
 use borrow.Author.Count.{below-none, below-more}
 use borrow.Author.Tests.{eqb-true}
 use lib.Dec.{eqb}
-use Rattle.compare.specs.Order.{orderOf}
-use Rattle.compare.proofs.Orders.{both-end, first-ends, second-ends, smaller, greater, alike, skip, first-false, second-true}
-use mathlib.Core.Path.{_≡_, refl, sym, ap, _∙_}
-use Prim.Native.Nat.{ℕ, _+_, _*_, _-_, _/_, _%_, _≤_, _<_}
+use Rattle.compare.proofs.Orders.{first-false, second-true}
+use mathlib.Core.Path.{_≡_}
+use Prim.Native.Nat.{ℕ, _+_, _-_, _≤_, _<_}
 use native.Mathlib.Omega.{arith}
-use lib.ListN.{length, getD, take, drop}
+use lib.ListN.{getD}
 use borrow.Author.Needs.{needs}
 use Rattle.compare.proofs.order.differ16.Statement.{statement}
 use Rattle.compare.proofs.order.differ16.Tie as tie

@@ -1,7 +1,6 @@
 -- `compare::prefix::begins_with` meets its contract: what is left to compare from i on decides the whole.
-use mathlib.Core.Path.{_≡_, refl, sym, ap, _∙_}
-use Prim.Native.Nat.{_+_, _-_, _≤_}
-use native.Mathlib.Omega.{arith}
+use mathlib.Core.Path.{_≡_, refl, sym, _∙_}
+use Prim.Native.Nat.{_-_, _≤_}
 use lib.ListN.{length, drop}
 use Rattle.compare.specs.Prefix.{begins}
 use Rattle.compare.proofs.Prefixes.{too-long, all-passed, differs, agrees}

@@ -6,7 +6,6 @@ use native.Mathlib.Omega.{arith}
 use lib.ListN.{length, drop}
 use Rattle.class.specs.Class.{Classes, classesOf}
 use Rattle.parse.proofs.Slices.{rest-is}
-use Rattle.edit.specs.declared.Edit.{Edit}
 use Rattle.edit.specs.declared.EditReading.the-variants.{Good}
 use Rattle.edits.specs.declared.list.Edits.the-variants.{Count}
 use Rattle.edit.specs.Edit.{editOf}
@@ -66,21 +65,21 @@ module _ (k : tie.After-read Inv-loop μ-loop) where
   is-read = ap (editOf (byte turn) (n turn)) (sym (rest-is (list turn) (place turn))) ∙ sym (k .read .ensures)
 
 -- it is good
-module _ (g : tie.After-c Inv-loop μ-loop) where
+module _ (g : tie.After-size Inv-loop μ-loop) where
   abbrev its-read : tie.After-read Inv-loop μ-loop
   its-read = g .before .before
 
   abbrev its-turn : tie.At-loop Inv-loop μ-loop
   its-turn = turn its-read
 
-  abbrev it : Edit
-  it = g .c .given .0 .0
+  abbrev size : ℕ
+  size = g .size .given .0 .0
 
-  is-edit : editOf (byte its-turn) (n its-turn) (drop (place its-turn) (list its-turn)) ≡ Good it
-  is-edit = is-read its-read ∙ g .c .given .1
+  is-edit : editOf (byte its-turn) (n its-turn) (drop (place its-turn) (list its-turn)) ≡ Good size
+  is-edit = is-read its-read ∙ g .size .given .1
 
-  goes-on : (place its-turn < place its-turn + it .size) × (place its-turn + it .size ≤ length (list its-turn))
-  goes-on = edit-goes-on (byte its-turn) (n its-turn) (list its-turn) (place its-turn) it is-edit
+  goes-on : (place its-turn < place its-turn + size) × (place its-turn + size ≤ length (list its-turn))
+  goes-on = edit-goes-on (byte its-turn) (n its-turn) (list its-turn) (place its-turn) size is-edit
 
 loop-holds : tie.Need-loop-holds Inv-loop μ-loop
 unfolding editsOf
@@ -104,25 +103,25 @@ part-rest-end c = search needs
 read-requires : tie.Need-read-requires Inv-loop μ-loop
 read-requires c κs = search needs
 
-enum-known-c : tie.Need-enum-known-c Inv-loop μ-loop
-enum-known-c c = search needs
+enum-known-size : tie.Need-enum-known-size Inv-loop μ-loop
+enum-known-size c = search needs
 
 add-place : tie.Need-add-place Inv-loop μ-loop
-add-place c = let g = c .before .before in omega (arith, goes-on g, start (its-turn g) .good)
+add-place c = let g = c .before in omega (arith, goes-on g, start (its-turn g) .good)
 
 add-count : tie.Need-add-count Inv-loop μ-loop
 add-count c = search needs
 
 loop-less : tie.Need-loop-less Inv-loop μ-loop
-loop-less c = omega (arith, goes-on (c .before .before))
+loop-less c = omega (arith, goes-on (c .before))
 
 loop-again : tie.Need-loop-again Inv-loop μ-loop
 loop-again c =
-    let g = c .before .before in
+    let g = c .before in
     let k = its-read g in
     let l = turn k in
-    let on = counted-onto (count l) (place l) (editsFrom (byte l) (n l) (list l) (turns k) (place l + it g .size)) in
-    (search needs, sym on ∙ decides l (fewer k ∙ from-good (byte l) (n l) (list l) (place l) (inside k) (turns k) (it g) (is-edit g)))
+    let on = counted-onto (count l) (place l) (editsFrom (byte l) (n l) (list l) (turns k) (place l + size g)) in
+    (search needs, sym on ∙ decides l (fewer k ∙ from-good (byte l) (n l) (list l) (place l) (inside k) (turns k) (size g) (is-edit g)))
 
 enum-known-fault : tie.Need-enum-known-fault Inv-loop μ-loop
 enum-known-fault c = search needs
@@ -152,7 +151,7 @@ count-spec =
     part-rest-start
     part-rest-end
     read-requires
-    enum-known-c
+    enum-known-size
     add-place
     add-count
     loop-less

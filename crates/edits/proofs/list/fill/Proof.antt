@@ -6,7 +6,6 @@ use native.Mathlib.Omega.{arith}
 use lib.ListN.{length, drop, length-set}
 use Rattle.class.specs.Class.{Classes, classesOf}
 use Rattle.parse.proofs.Slices.{rest-is}
-use Rattle.edit.specs.declared.Edit.{Edit}
 use Rattle.edit.specs.declared.EditReading.the-variants.{Good}
 use Rattle.edit.specs.Edit.{editOf}
 use Rattle.edit.proofs.Parts.{edit-goes-on}
@@ -54,18 +53,18 @@ module _ (k : tie.After-read Inv-loop μ-loop) where
   is-read = ap (editOf (byte turn) (n turn)) (sym (rest-is (list turn) (place turn))) ∙ sym (k .read .ensures)
 
 -- it is good
-module _ (g : tie.After-c Inv-loop μ-loop) where
+module _ (g : tie.After-size Inv-loop μ-loop) where
   abbrev its-turn : tie.At-loop Inv-loop μ-loop
   its-turn = turn (g .before .before)
 
-  abbrev it : Edit
-  it = g .c .given .0 .0
+  abbrev size : ℕ
+  size = g .size .given .0 .0
 
-  is-edit : editOf (byte its-turn) (n its-turn) (drop (place its-turn) (list its-turn)) ≡ Good it
-  is-edit = is-read (g .before .before) ∙ g .c .given .1
+  is-edit : editOf (byte its-turn) (n its-turn) (drop (place its-turn) (list its-turn)) ≡ Good size
+  is-edit = is-read (g .before .before) ∙ g .size .given .1
 
-  goes-on : (place its-turn < place its-turn + it .size) × (place its-turn + it .size ≤ length (list its-turn))
-  goes-on = edit-goes-on (byte its-turn) (n its-turn) (list its-turn) (place its-turn) it is-edit
+  goes-on : (place its-turn < place its-turn + size) × (place its-turn + size ≤ length (list its-turn))
+  goes-on = edit-goes-on (byte its-turn) (n its-turn) (list its-turn) (place its-turn) size is-edit
 
 loop-holds : tie.Need-loop-holds Inv-loop μ-loop
 loop-holds c = (search needs, search needs, filling-first _ _ _ _ (c .before .before .pre .1))
@@ -82,8 +81,8 @@ part-rest-end c = search needs
 read-requires : tie.Need-read-requires Inv-loop μ-loop
 read-requires c κs = search needs
 
-enum-known-c : tie.Need-enum-known-c Inv-loop μ-loop
-enum-known-c c = search needs
+enum-known-size : tie.Need-enum-known-size Inv-loop μ-loop
+enum-known-size c = search needs
 
 cast-index : tie.Need-cast-index Inv-loop μ-loop
 cast-index c = omega (arith, start (its-turn (c .before)) .pre .0)
@@ -95,24 +94,24 @@ slice-write-index : tie.Need-slice-write-index Inv-loop μ-loop
 slice-write-index c =
     let g = c .before in
     let l = its-turn g in
-    room-here (byte l) (n l) (list l) (first l) (l .loop .index) (place l) (l .loop .i) (l .loop .inv .2) (inside (g .before .before)) (it g) (is-edit g) (start l .pre .2)
+    room-here (byte l) (n l) (list l) (first l) (l .loop .index) (place l) (l .loop .i) (l .loop .inv .2) (inside (g .before .before)) (size g) (is-edit g) (start l .pre .2)
 
 add-place : tie.Need-add-place Inv-loop μ-loop
-add-place c = let g = c .before .before in omega (arith, goes-on g, start (its-turn g) .pre .0)
+add-place c = let g = c .before in omega (arith, goes-on g, start (its-turn g) .pre .0)
 
 add-i : tie.Need-add-i Inv-loop μ-loop
-add-i c = let l = its-turn (c .before .before) in omega (arith, l .loop .inv .1, start l .pre .0)
+add-i c = let l = its-turn (c .before) in omega (arith, l .loop .inv .1, start l .pre .0)
 
 loop-less : tie.Need-loop-less Inv-loop μ-loop
-loop-less c = omega (arith, goes-on (c .before .before))
+loop-less c = omega (arith, goes-on (c .before))
 
 loop-again : tie.Need-loop-again Inv-loop μ-loop
 loop-again c =
-    let g = c .before .before in
+    let g = c .before in
     let l = its-turn g in (
       simp length-set (l .loop .inv .0),
       omega (arith, goes-on g, l .loop .inv .1),
-      filling-next (byte l) (n l) (list l) (first l) (l .loop .index) (place l) (l .loop .i) (l .loop .inv .2) (inside (g .before .before)) (it g) (is-edit g) (start l .pre .2),
+      filling-next (byte l) (n l) (list l) (first l) (l .loop .index) (place l) (l .loop .i) (l .loop .inv .2) (inside (g .before .before)) (size g) (is-edit g) (start l .pre .2),
     )
 
 enum-told : tie.Need-enum-told Inv-loop μ-loop
@@ -146,7 +145,7 @@ fill-spec =
     part-rest-start
     part-rest-end
     read-requires
-    enum-known-c
+    enum-known-size
     cast-index
     mul-index
     slice-write-index

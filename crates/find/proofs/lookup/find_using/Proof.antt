@@ -1,13 +1,58 @@
 -- `find::lookup::find_using` meets its contract.
 use mathlib.Core.Path.{_≡_, sym, ap, _∙_}
+use mathlib.Core.List.{List}
+use Prim.Native.Nat.{ℕ}
 use borrow.Author.Tests.{not-true, not-false}
-use Rattle.class.specs.Class.{classesOf}
+use lib.ListN.{drop}
+use Rattle.class.specs.Class.{Classes, classesOf}
 use Rattle.parse.proofs.Slices.{rest-is}
-use Rattle.decode.specs.Record.{recordOf}
-use Rattle.find.specs.Lookup.{lookupOf}
+use Rattle.decode.specs.declared.reference.Reading.{Reading}
+use Rattle.decode.specs.Record.{recordOf, decoded}
+use Rattle.search.specs.declared.Halved.{Halved}
+use Rattle.find.specs.declared.lookup.Lookup.the-variants.{Charted, BadRecord}
+use Rattle.find.specs.Lookup.{lookupBy, lookupOf}
 use borrow.Author.Needs.{needs}
 use Rattle.find.proofs.lookup.find_using.Statement.{statement}
 use Rattle.find.proofs.lookup.find_using.Tie as tie
+
+-- ---- what is known at each place
+
+-- the name is valid, and the search has ended
+module _ (k : tie.After-search) where
+  abbrev start : tie.Start
+  start = k .before .before .before .before .before
+
+  abbrev byte : Classes
+  byte = classesOf (start .args .t .now)
+
+  abbrev n : ℕ
+  n = start .args .n
+
+  abbrev body : List ℕ
+  body = start .args .body .now
+
+  searched : {found : Halved} → k .search .result ≡ found → lookupOf byte n body (start .args .name .now) ≡ lookupBy byte n body found
+  unfolding lookupOf
+  searched e = rw (sym (k .before .before .is-valid-using .ensures) ∙ not-false _ (k .before .if1 .left), sym (k .search .ensures) ∙ e)
+
+-- it has hit a record, which was read
+module _ (r : tie.After-reference) where
+  abbrev its-search : tie.After-search
+  its-search = r .before .before .before .before .before
+
+  abbrev place : ℕ
+  place = r .before .before .before .place .given .0 .0
+
+  record-is : recordOf (byte its-search) (n its-search) (drop place (body its-search)) ≡ r .reference .result
+  record-is =
+      ap (recordOf (byte its-search) (n its-search)) (sym (r .before .between .ensures ∙ rest-is (body its-search) place))
+      ∙ sym (r .reference .ensures)
+
+  hit : {w : Reading} → r .reference .result ≡ w → lookupOf (byte its-search) (n its-search) (body its-search) (start its-search .args .name .now)
+      ≡ decoded w (λ found. Charted place found) (λ f. BadRecord place f)
+  hit e =
+      searched its-search (r .before .before .before .place .given .1)
+      ∙ ap (λ w. decoded w (λ found. Charted place found) (λ f. BadRecord place f)) (record-is ∙ e)
 
 is-valid-using-requires : tie.Need-is-valid-using-requires
 is-valid-using-requires c κs = search needs
@@ -38,42 +83,16 @@ enum-known-failed : tie.Need-enum-known-failed
 enum-known-failed c = search needs
 
 returns-2 : tie.Need-returns-2
-unfolding lookupOf
-returns-2 c =
-    let f = c .before .before in
-    let k = f .before .before in
-    let e = k .before in
-    rw (sym (e .before .is-valid-using .ensures) ∙ not-false _ (e .if1 .left), sym (k .search .ensures) ∙ f .failed .given .1, c .if2 .taken)
+returns-2 c = let f = c .before .before in rw (searched (f .before .before) (f .failed .given .1), c .if2 .taken)
 
 returns-3 : tie.Need-returns-3
-unfolding lookupOf
-returns-3 c =
-    let r = c .before .before .before in
-    let p = r .before .before .before in
-    let k = p .before .before in
-    let e = k .before in
-    let a = e .before .before .before .before .args in
-    let read = ap (recordOf (classesOf (a .t .now)) (a .n)) (sym (r .before .between .ensures ∙ rest-is (a .body .now) (p .place .given .0 .0))) ∙ sym (r .reference .ensures) ∙ c .before .found .given .1 in
-    rw (sym (e .before .is-valid-using .ensures) ∙ not-false _ (e .if1 .left), sym (k .search .ensures) ∙ p .place .given .1, read)
+returns-3 c = rw (hit (c .before .before .before) (c .before .found .given .1))
 
 returns-4 : tie.Need-returns-4
-unfolding lookupOf
-returns-4 c =
-    let r = c .before .before .before in
-    let p = r .before .before .before in
-    let k = p .before .before in
-    let e = k .before in
-    let a = e .before .before .before .before .args in
-    let read = ap (recordOf (classesOf (a .t .now)) (a .n)) (sym (r .before .between .ensures ∙ rest-is (a .body .now) (p .place .given .0 .0))) ∙ sym (r .reference .ensures) ∙ c .before .fault .given .1 in
-    rw (sym (e .before .is-valid-using .ensures) ∙ not-false _ (e .if1 .left), sym (k .search .ensures) ∙ p .place .given .1, read)
+returns-4 c = rw (hit (c .before .before .before) (c .before .fault .given .1))
 
 returns-5 : tie.Need-returns-5
-unfolding lookupOf
-returns-5 c =
-    let f = c .before .before in
-    let k = f .before .before in
-    let e = k .before in
-    rw (sym (e .before .is-valid-using .ensures) ∙ not-false _ (e .if1 .left), sym (k .search .ensures) ∙ f .failed .given .1, c .if2 .left)
+returns-5 c = let f = c .before .before in rw (searched (f .before .before) (f .failed .given .1), c .if2 .left)
 
 pub find-using-spec : {M : Type 1} → statement M
 find-using-spec =

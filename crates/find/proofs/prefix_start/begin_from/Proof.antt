@@ -1,5 +1,5 @@
 -- `find::prefix_start::begin_from` meets its contract.
-use mathlib.Core.Path.{_≡_, sym, ap, _∙_}
+use mathlib.Core.Path.{sym, ap, _∙_}
 use native.Mathlib.Omega.{arith}
 use lib.ListN.{drop, length-drop}
 use Rattle.class.specs.Class.{classesOf}

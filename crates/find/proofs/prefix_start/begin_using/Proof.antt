@@ -1,5 +1,5 @@
 -- `find::prefix_start::begin_using` meets its contract.
-use mathlib.Core.Path.{_≡_, sym, _∙_}
+use mathlib.Core.Path.{sym, _∙_}
 use Rattle.class.specs.Class.{classesOf}
 use Rattle.find.specs.PrefixStart.{prefixStartOf}
 use Rattle.find.proofs.Places.{search-inside}

@@ -1,5 +1,5 @@
 -- `iter::step::next_with_prefix` meets its contract: 1 and 17 first, and the table's classes are the paper's.
-use mathlib.Core.Path.{_≡_, sym, ap, _∙_}
+use mathlib.Core.Path.{sym, ap, _∙_}
 use Rattle.class.proofs.Classes.{by-paper}
 use Rattle.iter.specs.declared.step.StepAnswer.the-variants.{Done}
 use Rattle.iter.specs.Step.{stepOf, stepAnswer}

@@ -1,5 +1,5 @@
 -- `parse::limit::admit` meets its contract.
-use mathlib.Core.Path.{_≡_, sym, _∙_}
+use mathlib.Core.Path.{sym, _∙_}
 use Rattle.parse.specs.Limit.{admission}
 use borrow.Author.Needs.{needs}
 use Rattle.parse.proofs.limit.admit.Statement.{statement}

@@ -1,8 +1,8 @@
 -- `parse::line::newline` meets its contract.
-use mathlib.Core.Path.{_≡_, sym, _∙_}
-use Prim.Native.Nat.{ℕ, _+_, _≤_}
+use mathlib.Core.Path.{_≡_, sym}
+use Prim.Native.Nat.{_+_}
 use native.Mathlib.Omega.{arith}
-use lib.ListN.{length, getD, List·getD-eq-default}
+use lib.ListN.{getD, List·getD-eq-default}
 use Rattle.parse.proofs.Lines.{lf-there, crlf-there, no-line-end, no-lf-behind, beyond-end}
 use borrow.Author.Needs.{needs}
 use Rattle.parse.proofs.line.newline.Statement.{statement}

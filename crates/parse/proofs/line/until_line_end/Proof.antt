@@ -1,5 +1,5 @@
 -- `parse::line::until_line_end` meets its contract.
-use mathlib.Core.Path.{_≡_, sym, _∙_}
+use mathlib.Core.Path.{sym, _∙_}
 use Rattle.class.specs.Class.{classesOf}
 use Rattle.parse.proofs.Lines.{text-ended, text-unended}
 use borrow.Author.Needs.{needs}

@@ -1,5 +1,5 @@
 -- `probe::shape::name_at_record_start` meets its contract.
-use mathlib.Core.Path.{_≡_, sym, _∙_}
+use mathlib.Core.Path.{sym, _∙_}
 use borrow.Author.Tests.{lt-ltb, le-ltb}
 use Rattle.probe.specs.Shape.{shapeOf}
 use borrow.Author.Needs.{needs}

@@ -1,7 +1,6 @@
 -- `probe::start::by_one` meets its contract: the line that i lies in begins where the place's line does.
 use mathlib.Core.Path.{_≡_, sym, _∙_}
 use Prim.Native.Nat.{_≤_}
-use lib.ListN.{length}
 use Rattle.probe.specs.RecordStart.{lineStart}
 use Rattle.probe.proofs.Starts.{line-first, line-stop, line-back}
 use borrow.Author.Needs.{needs}

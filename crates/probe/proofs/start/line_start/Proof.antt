@@ -1,5 +1,5 @@
 -- `probe::start::line_start` meets its contract.
-use mathlib.Core.Path.{_≡_, sym, _∙_}
+use mathlib.Core.Path.{sym, _∙_}
 use Rattle.probe.proofs.Starts.{line-beyond}
 use borrow.Author.Needs.{needs}
 use Rattle.probe.proofs.start.line_start.Statement.{statement}

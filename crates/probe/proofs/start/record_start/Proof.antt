@@ -1,5 +1,5 @@
 -- `probe::start::record_start` meets its contract.
-use mathlib.Core.Path.{_≡_, sym, _∙_}
+use mathlib.Core.Path.{sym, _∙_}
 use Prim.Native.Nat.{_-_}
 use native.Mathlib.Omega.{arith}
 use Rattle.probe.proofs.Starts.{line-first, start-at-end, start-here, start-before}

@@ -1,4 +1,4 @@
--- `ask::items` is safe and ends: it goes on only where a step brings the place nearer to the end.
+-- `replay::ask::items` is safe and ends: it goes on only where a step brings the place nearer to the end.
 use Prim.Native.Nat.{_-_, _≤_}
 use lib.ListN.{length}
 use borrow.Author.Needs.{needs}

@@ -1,4 +1,4 @@
--- `merge::entries` is safe and ends.
+-- `replay::merge::entries` is safe and ends.
 use Prim.Native.Nat.{_-_, _≤_}
 use lib.ListN.{length}
 use borrow.Author.Needs.{needs}

@@ -1,4 +1,4 @@
--- `merge::is_untouched` is safe and ends.
+-- `replay::merge::is_untouched` is safe and ends.
 use Prim.Native.Nat.{_-_, _≤_}
 use lib.ListN.{length}
 use borrow.Author.Needs.{needs}

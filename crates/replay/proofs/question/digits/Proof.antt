@@ -1,4 +1,4 @@
--- `question::digits` is safe and ends: each digit brings the place nearer to the end.
+-- `replay::question::digits` is safe and ends: each digit brings the place nearer to the end.
 use Prim.Native.Nat.{_-_, _≤_}
 use lib.ListN.{length}
 use borrow.Author.Needs.{needs}

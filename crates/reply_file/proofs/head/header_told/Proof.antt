@@ -15,28 +15,31 @@ peeled-number-requires c κs = search needs
 flag-requires : tie.Need-flag-requires
 flag-requires c κs = search needs
 
+header-gives-requires : tie.Need-header-gives-requires
+header-gives-requires c κs = search needs
+
 enum-known-said-2 : tie.Need-enum-known-said-2
 enum-known-said-2 c = search needs
 
-bare-requires : tie.Need-bare-requires
-bare-requires c κs = search needs
+header-gives-requires-2 : tie.Need-header-gives-requires-2
+header-gives-requires-2 c κs = search needs
 
 enum-told : tie.Need-enum-told
 enum-told c = search needs
 
-bare-requires-2 : tie.Need-bare-requires-2
-bare-requires-2 c κs = search needs
+header-gives-requires-3 : tie.Need-header-gives-requires-3
+header-gives-requires-3 c κs = search needs
 
 returns : tie.Need-returns
 returns c =
-    let k = c .before .before .before in
-    rw (k .before .before .before .answer .given .1, k .said .given .1, c .before .peeled-number .ensures, c .flag .ensures)
+    let k = c .before .before .before .before in
+    rw (c .header-gives .ensures, k .before .before .before .answer .given .1, k .said .given .1, c .before .before .peeled-number .ensures, c .before .flag .ensures)
 
 returns-2 : tie.Need-returns-2
-returns-2 c = rw (c .before .before .before .before .before .answer .given .1, c .before .before .said2 .given .1) (c .bare .ensures)
+returns-2 c = rw (c .before .before .before .before .before .answer .given .1, c .before .before .said2 .given .1) (c .header-gives2 .ensures)
 
 returns-3 : tie.Need-returns-3
-returns-3 c = rw (c .before .enum-told .given .1) (c .bare2 .ensures)
+returns-3 c = rw (c .before .enum-told .given .1) (c .header-gives3 .ensures)
 
 pub header-told-spec : {M : Type 1} → statement M
 header-told-spec =
@@ -46,10 +49,11 @@ header-told-spec =
     enum-known-said
     peeled-number-requires
     flag-requires
+    header-gives-requires
     enum-known-said-2
-    bare-requires
+    header-gives-requires-2
     enum-told
-    bare-requires-2
+    header-gives-requires-3
     returns
     returns-2
     returns-3)

@@ -1,6 +1,4 @@
 -- `reply_file::verdict::check_told` meets its contract.
-use mathlib.Core.Path.{ap, _∙_}
-use Rattle.reply_file.specs.Verdict.{checkRefused}
 use borrow.Author.Needs.{needs}
 use Rattle.reply_file.proofs.verdict.check_told.Statement.{statement}
 use Rattle.reply_file.proofs.verdict.check_told.Tie as tie
@@ -41,7 +39,7 @@ returns c = rw (c .before .before .before .before .before .answer .given .1, c .
 returns-2 : tie.Need-returns-2
 returns-2 c =
     let v = c .before .before .before in
-    rw (v .before .before .before .answer .given .1, v .verdict2 .given .1) (c .check-gives2 .ensures ∙ ap checkRefused (c .before .refusal .ensures))
+    rw (c .check-gives2 .ensures, v .before .before .before .answer .given .1, v .verdict2 .given .1, c .before .refusal .ensures)
 
 returns-3 : tie.Need-returns-3
 returns-3 c = rw (c .before .enum-told .given .1) (c .check-gives3 .ensures)

@@ -6,7 +6,6 @@ use Rattle.decode.specs.declared.reference.Record.{Record}
 use Rattle.ask.specs.declared.Told.the-variants.{Charted}
 use Rattle.tell.specs.Told.{Near}
 use Rattle.tell.proofs.Near.{told-near}
-use Rattle.reply_lookup.specs.Asked.{askRefused}
 use borrow.Author.Needs.{needs}
 use Rattle.reply_lookup.proofs.asked.ask_told.Statement.{statement}
 use Rattle.reply_lookup.proofs.asked.ask_told.Tie as tie
@@ -14,7 +13,10 @@ use Rattle.reply_lookup.proofs.asked.ask_told.Tie as tie
 -- where it is a record, its places fit
 module _ (k : tie.After-known-told) where
   near : {place : ℕ} {r : Record} → k .before .answer .given .0 .0 ≡ Charted place r → Near place r
-  near {place} {r} e = k .before .before .before .pre place r (k .before .answer .given .1 ∙ ap Done e)
+  near {place} {r} e = k .before .before .before .before .pre place r (k .before .answer .given .1 ∙ ap Done e)
+
+no-parts-requires : tie.Need-no-parts-requires
+no-parts-requires c κs = search needs
 
 enum-known-answer : tie.Need-enum-known-answer
 enum-known-answer c = search needs
@@ -25,17 +27,20 @@ enum-known-said c = search needs
 parts-at-requires : tie.Need-parts-at-requires
 parts-at-requires c κs = search needs
 
+ask-gives-requires : tie.Need-ask-gives-requires
+ask-gives-requires c κs = search needs
+
 enum-told : tie.Need-enum-told
 enum-told c = search needs
 
-ask-bare-requires : tie.Need-ask-bare-requires
-ask-bare-requires c κs = search needs
+ask-gives-requires-2 : tie.Need-ask-gives-requires-2
+ask-gives-requires-2 c κs = search needs
 
 enum-told-2 : tie.Need-enum-told-2
 enum-told-2 c = search needs
 
-ask-bare-requires-2 : tie.Need-ask-bare-requires-2
-ask-bare-requires-2 c κs = search needs
+ask-gives-requires-3 : tie.Need-ask-gives-requires-3
+ask-gives-requires-3 c κs = search needs
 
 enum-known-said-2 : tie.Need-enum-known-said-2
 enum-known-said-2 c = search needs
@@ -43,62 +48,68 @@ enum-known-said-2 c = search needs
 refusal-requires : tie.Need-refusal-requires
 refusal-requires c κs = search needs
 
-ask-bare-requires-3 : tie.Need-ask-bare-requires-3
-ask-bare-requires-3 c κs = search needs
+ask-gives-requires-4 : tie.Need-ask-gives-requires-4
+ask-gives-requires-4 c κs = search needs
 
 enum-told-3 : tie.Need-enum-told-3
 enum-told-3 c = search needs
 
-ask-bare-requires-4 : tie.Need-ask-bare-requires-4
-ask-bare-requires-4 c κs = search needs
+ask-gives-requires-5 : tie.Need-ask-gives-requires-5
+ask-gives-requires-5 c κs = search needs
 
 enum-told-4 : tie.Need-enum-told-4
 enum-told-4 c = search needs
 
-ask-bare-requires-5 : tie.Need-ask-bare-requires-5
-ask-bare-requires-5 c κs = search needs
+ask-gives-requires-6 : tie.Need-ask-gives-requires-6
+ask-gives-requires-6 c κs = search needs
 
 returns : tie.Need-returns
 returns c =
-    let known = c .before .before .before .before in
-    let charted = c .before .before .said .given .1 in
-    rw (known .before .answer .given .1, charted, c .parts-at .ensures ∙ told-near _ _ _ (near known charted))
+    let known = c .before .before .before .before .before in
+    let charted = c .before .before .before .said .given .1 in
+    rw (c .ask-gives .ensures, known .before .answer .given .1, charted, c .before .parts-at .ensures ∙ told-near _ _ _ (near known charted))
 
 returns-2 : tie.Need-returns-2
-returns-2 c = rw (c .before .before .before .before .answer .given .1, c .before .enum-told .given .1) (c .ask-bare .ensures)
+returns-2 c =
+    let known = c .before .before .before in
+    rw (c .ask-gives2 .ensures, known .before .answer .given .1, c .before .enum-told .given .1, known .before .before .before .no-parts .ensures)
 
 returns-3 : tie.Need-returns-3
-returns-3 c = rw (c .before .before .before .before .answer .given .1, c .before .enum-told2 .given .1) (c .ask-bare2 .ensures)
+returns-3 c =
+    let known = c .before .before .before in
+    rw (c .ask-gives3 .ensures, known .before .answer .given .1, c .before .enum-told2 .given .1, known .before .before .before .no-parts .ensures)
 
 returns-4 : tie.Need-returns-4
 returns-4 c =
-    let s = c .before .before .before in
-    rw (s .before .before .before .answer .given .1, s .said2 .given .1) (c .ask-bare3 .ensures ∙ ap askRefused (c .before .refusal .ensures))
+    let known = c .before .before .before .before .before in
+    rw (c .ask-gives4 .ensures, known .before .answer .given .1, c .before .before .before .said2 .given .1, c .before .refusal .ensures, known .before .before .before .no-parts .ensures)
 
 returns-5 : tie.Need-returns-5
-returns-5 c = rw (c .before .enum-told3 .given .1) (c .ask-bare4 .ensures)
+returns-5 c = rw (c .ask-gives5 .ensures, c .before .enum-told3 .given .1, c .before .before .before .no-parts .ensures)
 
 returns-6 : tie.Need-returns-6
-returns-6 c = rw (c .before .enum-told4 .given .1) (c .ask-bare5 .ensures)
+returns-6 c = rw (c .ask-gives6 .ensures, c .before .enum-told4 .given .1, c .before .before .before .no-parts .ensures)
 
 pub ask-told-spec : {M : Type 1} → statement M
 ask-told-spec =
     tie.close
     (tie.spec
+    no-parts-requires
     enum-known-answer
     enum-known-said
     parts-at-requires
+    ask-gives-requires
     enum-told
-    ask-bare-requires
+    ask-gives-requires-2
     enum-told-2
-    ask-bare-requires-2
+    ask-gives-requires-3
     enum-known-said-2
     refusal-requires
-    ask-bare-requires-3
+    ask-gives-requires-4
     enum-told-3
-    ask-bare-requires-4
+    ask-gives-requires-5
     enum-told-4
-    ask-bare-requires-5
+    ask-gives-requires-6
     returns
     returns-2
     returns-3

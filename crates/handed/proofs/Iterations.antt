@@ -2,7 +2,6 @@
 use mathlib.Core.Path.{_≡_, refl, sym, ap, _∙_}
 use mathlib.Core.Bool.{Bool, true, false}
 use mathlib.Core.List.{List, [], _∷_}
-use mathlib.Core.Logic.{_⊎_, inl, inr}
 use Prim.Native.Nat.{ℕ, zero, suc, _+_, _-_, _≤_, _<_}
 use native.Mathlib.Omega.{arith}
 use lib.Dec.{ltb}
@@ -12,43 +11,23 @@ use borrow.Author.Tests.{ltb-true, ltb-false}
 use Rattle.class.specs.Class.{Classes}
 use Rattle.parse.specs.Line.{lineLen}
 use Rattle.parse.proofs.Fronts.{lineLen-le, lineLen-some}
-use Rattle.parse.proofs.Slices.{part-of-front}
 use Rattle.compare.specs.Prefix.{begins}
 use Rattle.decode.specs.declared.reference.Fault.{Fault}
 use Rattle.decode.specs.declared.reference.Record.{Record}
 use Rattle.decode.specs.declared.reference.Reading.{Reading}
 use Rattle.decode.specs.declared.reference.Reading.the-variants.{Good, Bad}
+use Rattle.decode.specs.Entry.{entryOf}
 use Rattle.decode.specs.Record.{recordOf}
-use Rattle.decode.proofs.Records.{Fits, fits}
-use Rattle.iter.specs.Items.{Item, sizeOf, itemOf, items, nameOf}
-use Rattle.iter.specs.Step.{stepOf, more}
-use Rattle.iter.proofs.Items.{items-nil, items-step, size-good, size-le, size-some}
+use Rattle.decode.proofs.Entry.{name-inside, entry-inside}
+use Rattle.decode.proofs.Records.{fits}
+use Rattle.iter.specs.Items.{Item, sizeOf, items}
+use Rattle.iter.specs.Step.{more}
+use Rattle.iter.proofs.Items.{items-nil, items-step, size-good}
 use Rattle.iter.proofs.Steps.{step-end, step-error, step-other, step-good}
-use Rattle.iter.proofs.Turns.{item-name}
 use Rattle.start.specs.Start.{firstItem, startOf}
-use Rattle.handed.specs.Handed.{given, good, peeled, error, partsBy, partsOf}
-use Rattle.handed.specs.Run.{Run, ended, onto, runOf, read, readOf}
+use Rattle.handed.specs.Handed.{good, error, given}
+use Rattle.handed.specs.Iteration.{Iteration, saidEnd, onto, iterate, read, readOf}
 use Rattle.handed.specs.Hands.{unlessOther, upToOther, allOf, HandsOut, HandsOutAll, ReadsFile}
-
--- ---- a record's parts lie inside its own bytes
-
-module _ (byte : Classes) (n : ℕ) (t : List ℕ) (r : Record) (e : recordOf byte n t ≡ Good r) where
-  name-inside : take (r .«name_len») (drop (n + 1) (take (r .size) t)) ≡ take (r .«name_len») (drop (n + 1) t)
-  name-inside = part-of-front (r .«name_len») (n + 1) (r .size) t (omega (arith, fits byte n t r e .holds))
-
-  pub parts-inside : partsOf n (take (r .size) t) r ≡ partsOf n t r
-  parts-inside = go (r .peeled) (fits byte n t r e .peeled)
-    where
-      id : take n (take (r .size) t) ≡ take n t
-      id = take-take n (r .size) t (omega (arith, fits byte n t r e .holds))
-
-      go : (at : ℕ) → (at ≡ 0) ⊎ ((suc n + r .«name_len» < at) × (at + n < r .size))
-          → partsBy n (take (r .size) t) (take (r .«name_len») (drop (n + 1) (take (r .size) t))) at ≡ partsBy n t (take (r .«name_len») (drop (n + 1) t)) at
-      go zero h = λ i. good (id i) (name-inside i)
-      go (suc at) (inl h) = absurd (omega arith)
-      go (suc at) (inr h) =
-          let p : take n (drop (suc at) (take (r .size) t)) ≡ take n (drop (suc at) t) = part-of-front n (suc at) (r .size) t (omega (arith, h .1)) in
-          λ i. peeled (id i) (name-inside i) (p i)
 
 -- ---- one item: what it hands out is what the step at its place tells, and the rest stands behind it
 
@@ -62,7 +41,7 @@ module _ (byte : Classes) (n : ℕ) (prefix s : List ℕ) (place item : ℕ) (in
       items-step byte n t (omega (arith, length-drop place s))
       ∙ rw (z, e, drop-drop k place s)
 
-  abbrev rest : ℕ → ℕ → Run
+  abbrev rest : ℕ → ℕ → Iteration
   rest next following = allOf n (length s) next following (upToOther n prefix (items byte n (drop next s)))
 
   after-error : (f : Fault) → recordOf byte n t ≡ Bad f
@@ -83,38 +62,38 @@ module _ (byte : Classes) (n : ℕ) (prefix s : List ℕ) (place item : ℕ) (in
         ≡ allOf n (length s) place item (upToOther n prefix (record { what = Good r; bytes = take size t } ∷ items byte n (drop (place + size) s)))
     as-items = ap (λ (l : List Item). allOf n (length s) place item (upToOther n prefix l)) (first-item (Good r) size e (size-good byte n t r e))
 
-    after-other : begins prefix (take (r .«name_len») (drop (n + 1) t)) ≡ false → rest place item ≡ record { out = []; stop = ended (length s) item }
+    after-other : begins prefix (take (r .«name_len») (drop (n + 1) t)) ≡ false → rest place item ≡ record { out = []; stop = saidEnd (length s) item }
     after-other b = as-items ∙ rw (name-inside byte n t r e, b)
 
     after-record : begins prefix (take (r .«name_len») (drop (n + 1) t)) ≡ true
-        → rest place item ≡ onto (given place (place + size) (partsOf n t r)) (rest (place + size) (more item))
+        → rest place item ≡ onto (given place (place + size) (good (entryOf n t r))) (rest (place + size) (more item))
     after-record b =
         let long : length (take size t) ≡ size = length-take-le size t (fits byte n t r e .inside) in
         as-items ∙ rw (name-inside byte n t r e, b, long)
-        (λ i. onto (given place (place + size) (parts-inside byte n t r e i)) (rest (place + size) (more item)))
+        (λ i. onto (given place (place + size) (good (entry-inside byte n t r e i))) (rest (place + size) (more item)))
 
 -- ---- step by step
 
 module _ (byte : Classes) (n : ℕ) (prefix s : List ℕ) where
   abbrev Runs : ℕ → ℕ → ℕ → Type 0
   Runs turns place item =
-      length s - place < turns → runOf byte n prefix s turns place item ≡ allOf n (length s) place item (upToOther n prefix (items byte n (drop place s)))
+      length s - place < turns → iterate byte n prefix s turns place item ≡ allOf n (length s) place item (upToOther n prefix (items byte n (drop place s)))
 
   runs : (turns place item : ℕ) → Runs turns place item
-  unfolding runOf
+  unfolding iterate
   runs zero place item h = absurd (omega arith)
   runs (suc turns) place item h = go (ltb place (length s)) refl (recordOf byte n (drop place s)) refl (runs turns)
     where
       go : (v : Bool) → ltb place (length s) ≡ v → (w : Reading) → recordOf byte n (drop place s) ≡ w
           → ((next following : ℕ) → Runs turns next following)
-          → runOf byte n prefix s (suc turns) place item ≡ allOf n (length s) place item (upToOther n prefix (items byte n (drop place s)))
+          → iterate byte n prefix s (suc turns) place item ≡ allOf n (length s) place item (upToOther n prefix (items byte n (drop place s)))
       go false v w e ih =
           let end : length s ≤ place = ltb-false place (length s) v in
-          rw (step-end byte n prefix s place item end, runOf, drop-of-length-le s end, items-nil byte n)
+          rw (step-end byte n prefix s place item end, iterate, drop-of-length-le s end, items-nil byte n)
       go true v (Bad f) e ih =
           let inside : place < length s = ltb-true place (length s) v in
           let some : 1 ≤ lineLen (drop place s) = lineLen-some (drop place s) (omega (arith, length-drop place s)) in
-          rw (step-error byte n prefix s place item inside f e, runOf, ih (place + lineLen (drop place s)) (more item) (omega arith))
+          rw (step-error byte n prefix s place item inside f e, iterate, ih (place + lineLen (drop place s)) (more item) (omega arith))
           (sym (after-error byte n prefix s place item inside f e))
       go true v (Good r) e ih = by (begins prefix (take (r .«name_len») (drop (n + 1) (drop place s)))) refl
         where
@@ -122,11 +101,11 @@ module _ (byte : Classes) (n : ℕ) (prefix s : List ℕ) where
           inside = ltb-true place (length s) v
 
           by : (b : Bool) → begins prefix (take (r .«name_len») (drop (n + 1) (drop place s))) ≡ b
-              → runOf byte n prefix s (suc turns) place item ≡ allOf n (length s) place item (upToOther n prefix (items byte n (drop place s)))
+              → iterate byte n prefix s (suc turns) place item ≡ allOf n (length s) place item (upToOther n prefix (items byte n (drop place s)))
           by false b =
-              rw (step-other byte n prefix s place item inside r e b, runOf) (sym (after-other byte n prefix s place item inside r e b))
+              rw (step-other byte n prefix s place item inside r e b, iterate) (sym (after-other byte n prefix s place item inside r e b))
           by true b =
-              rw (step-good byte n prefix s place item inside r e b, runOf, ih (place + r .size) (more item) (omega (arith, inside, fits byte n (drop place s) r e .holds)))
+              rw (step-good byte n prefix s place item inside r e b, iterate, ih (place + r .size) (more item) (omega (arith, inside, fits byte n (drop place s) r e .holds)))
               (sym (after-record byte n prefix s place item inside r e b))
 
 pub hands-out : (byte : Classes) (n : ℕ) (prefix s : List ℕ) (place item : ℕ) → HandsOut byte n prefix s place item

@@ -24,28 +24,28 @@ use Rattle.iter.specs.declared.step.StepAnswer.the-variants.{Done, UnknownKind,
 use Rattle.iter.specs.Items.{nameIn}
 use Rattle.iter.specs.Step.{stepBy, stepOf, stepAnswer, more}
 use Rattle.iter.proofs.Steps.{step-end}
-use Rattle.handed.specs.Run.{runOf}
-use Rattle.handed.proofs.Runs.{hands-out}
+use Rattle.handed.specs.Iteration.{iterate}
+use Rattle.handed.proofs.Iterations.{hands-out}
 use Rattle.iterator.specs.declared.Iter.{Iter}
-use Rattle.iterator.specs.Next.{answerOf, placeAfter, itemAfter, nextIter}
-use Rattle.iterator.specs.Run.{runBy, runFrom, admissionOf, GoesOn}
+use Rattle.iterator.specs.Next.{answerOf, nextOfBoth, nextIter}
+use Rattle.iterator.specs.Iteration.{iterateBy, iterateFrom, admissionOf, GoesOn}
 
 -- with a known kind and inputs within the limit the answer is the plain step
 answered : (it : Iter) (n : ℕ) → admissionOf it ≡ Digits n → answerOf it ≡ Done (stepOf paper n (now (it .prefix)) (now (it .s)) (it .place) (it .item))
 unfolding stepAnswer
 answered it n e = rw e
 
-on : (n turns : ℕ) (it : Iter) → admissionOf it ≡ Digits n → runFrom n turns it ≡ runOf paper n (now (it .prefix)) (now (it .s)) turns (it .place) (it .item)
-unfolding runOf
+on : (n turns : ℕ) (it : Iter) → admissionOf it ≡ Digits n → iterateFrom n turns it ≡ iterate paper n (now (it .prefix)) (now (it .s)) turns (it .place) (it .item)
+unfolding iterate
 on n zero it e = refl
 on n (suc turns) it e = go (stepOf paper n (now (it .prefix)) (now (it .s)) (it .place) (it .item)) refl (answered it n e) (on n turns (nextIter it) e)
   where
     go : (w : Step) → stepOf paper n (now (it .prefix)) (now (it .s)) (it .place) (it .item) ≡ w → answerOf it ≡ Done w
-        → runFrom n turns (nextIter it) ≡ runOf paper n (now (it .prefix)) (now (it .s)) turns (placeAfter (it .place) (answerOf it)) (itemAfter (it .item) (answerOf it))
-        → runBy n it (runFrom n turns (nextIter it)) (answerOf it) ≡ runOf paper n (now (it .prefix)) (now (it .s)) (suc turns) (it .place) (it .item)
-    go (End next last) p q rest = rw (q, p, runOf)
-    go (Good r next following) p q rest = rw (rest, q, p, runOf)
-    go (Error f told text next following) p q rest = rw (rest, q, p, runOf)
+        → iterateFrom n turns (nextIter it) ≡ iterate paper n (now (it .prefix)) (now (it .s)) turns (nextOfBoth (it .place) (it .item) (answerOf it) .0) (nextOfBoth (it .place) (it .item) (answerOf it) .1)
+        → iterateBy n it (iterateFrom n turns (nextIter it)) (answerOf it) ≡ iterate paper n (now (it .prefix)) (now (it .s)) (suc turns) (it .place) (it .item)
+    go (End next last) p q rest = rw (q, p, iterate)
+    go (Good r next following) p q rest = rw (rest, q, p, iterate)
+    go (Error f told text next following) p q rest = rw (rest, q, p, iterate)
 
 -- an end gives the length as next place, and the number as it came
 end-is : (n : ℕ) (prefix s : List ℕ) (place item next last : ℕ) → stepOf paper n prefix s place item ≡ End next last → (length s ≡ next) × (item ≡ last)
@@ -69,10 +69,10 @@ ends it next last q = go (admissionOf it) refl q
         → answerOf (nextIter it) ≡ Done (End next last)
     go (admitted.Digits n) e d =
         let p : (length (now (it .s)) ≡ next) × (it .item ≡ last) = end-is n (now (it .prefix)) (now (it .s)) (it .place) (it .item) next last cc in
-        let at : placeAfter (it .place) (answerOf it) ≡ next = ap (placeAfter (it .place)) q in
+        let at : nextOfBoth (it .place) (it .item) (answerOf it) .0 ≡ next = ap (λ a. nextOfBoth (it .place) (it .item) a .0) q in
         answered (nextIter it) n e
         ∙ ap Done (step-end paper n (now (it .prefix)) (now (it .s)) (nextIter it .place) (nextIter it .item) (omega (arith, p .0, at))
-        ∙ (λ i. End (p .0 i) (itemAfter (it .item) (q i))))
+        ∙ (λ i. End (p .0 i) (nextOfBoth (it .place) (it .item) (q i) .1)))
     go admitted.UnknownKind e d = absurd (let z : _≡_ {A = ℕ} 0 1 = cc in omega arith)
     go admitted.TooLarge e d = absurd (let z : _≡_ {A = ℕ} 0 1 = cc in omega arith)
 

@@ -1,4 +1,4 @@
--- What a caller is handed who steps an iteration that is one value, again and again. Nothing is used here but what the step answers and where it
+-- What a caller who steps an iteration that is one value, again and again, is handed. Nothing is used here but what the step answers and where it
 -- leaves the iteration.
 use mathlib.Core.Path.{_≡_}
 use mathlib.Core.List.{[]}
@@ -9,28 +9,29 @@ use Rattle.class.specs.Class.{paper}
 use Rattle.parse.specs.declared.limit.Admission.{Admission}
 use Rattle.parse.specs.declared.limit.Admission.the-variants.{Digits}
 use Rattle.parse.specs.Limit.{admission}
+use Rattle.decode.specs.Entry.{entryOf}
 use Rattle.iter.specs.Items.{items}
 use Rattle.iter.specs.declared.step.Step.the-variants.{End, Good, Error}
 use Rattle.iter.specs.declared.step.StepAnswer.{StepAnswer}
 use Rattle.iter.specs.declared.step.StepAnswer.the-variants.{Done, UnknownKind, TooLarge}
-use Rattle.handed.specs.Handed.{given, error, partsOf}
+use Rattle.handed.specs.Handed.{good, error, given}
 use Rattle.handed.specs.Hands.{upToOther, allOf}
-use Rattle.handed.specs.Run.{Run, ended, unfinished, onto, runOf}
+use Rattle.handed.specs.Iteration.{Iteration, saidEnd, unfinished, onto, iterate}
 use Rattle.iterator.specs.declared.Iter.{Iter}
 use Rattle.iterator.specs.Next.{answerOf, nextIter}
 
 -- what an answer hands out, for ids of n digits, and then the rest; an end and a refusal hand out nothing, and nothing comes behind them
-abbrev pub runBy : ℕ → Iter → Run → StepAnswer → Run
-runBy n it rest (Done (End next last)) = record { out = []; stop = ended next last }
-runBy n it rest (Done (Good r next following)) = onto (given (it .place) next (partsOf n (drop (it .place) (now (it .s))) r)) rest
-runBy n it rest (Done (Error f told text next following)) = onto (given (it .place) next (error told (take text (drop (it .place) (now (it .s)))))) rest
-runBy n it rest UnknownKind = record { out = []; stop = unfinished }
-runBy n it rest TooLarge = record { out = []; stop = unfinished }
+abbrev pub iterateBy : ℕ → Iter → Iteration → StepAnswer → Iteration
+iterateBy n it rest (Done (End next last)) = record { out = []; stop = saidEnd next last }
+iterateBy n it rest (Done (Good r next following)) = onto (given (it .place) next (good (entryOf n (drop (it .place) (now (it .s))) r))) rest
+iterateBy n it rest (Done (Error f told text next following)) = onto (given (it .place) next (error told (take text (drop (it .place) (now (it .s)))))) rest
+iterateBy n it rest UnknownKind = record { out = []; stop = unfinished }
+iterateBy n it rest TooLarge = record { out = []; stop = unfinished }
 
 -- so many steps at most
-abbrev pub runFrom : ℕ → ℕ → Iter → Run
-runFrom n zero it = record { out = []; stop = unfinished }
-runFrom n (suc turns) it = runBy n it (runFrom n turns (nextIter it)) (answerOf it)
+abbrev pub iterateFrom : ℕ → ℕ → Iter → Iteration
+iterateFrom n zero it = record { out = []; stop = unfinished }
+iterateFrom n (suc turns) it = iterateBy n it (iterateFrom n turns (nextIter it)) (answerOf it)
 
 -- the kind's number, then the size limit of the bytes and of the prefix
 abbrev pub admissionOf : Iter → Admission
@@ -39,11 +40,11 @@ admissionOf it = admission (it .kind) (length (now (it .s))) (length (now (it .p
 pub record GoesOn (it : Iter) : Type 0 where
   -- the steps are the plain steps, each from where the one before it left the iteration
   pub on : (n turns : ℕ) → admissionOf it ≡ Digits n
-      → runFrom n turns it ≡ runOf paper n (now (it .prefix)) (now (it .s)) turns (it .place) (it .item)
+      → iterateFrom n turns it ≡ iterate paper n (now (it .prefix)) (now (it .s)) turns (it .place) (it .item)
   -- so whoever steps until the end is handed the items from the place on, up to the first record whose name doesn't begin with the prefix, and then
   -- the end. A step for every byte left and one for the end is enough
   pub all : (n turns : ℕ) → admissionOf it ≡ Digits n → length (now (it .s)) - it .place < turns
-      → runFrom n turns it ≡ allOf n (length (now (it .s))) (it .place) (it .item) (upToOther n (now (it .prefix)) (items paper n (drop (it .place) (now (it .s)))))
+      → iterateFrom n turns it ≡ allOf n (length (now (it .s))) (it .place) (it .item) (upToOther n (now (it .prefix)) (items paper n (drop (it .place) (now (it .s)))))
   -- "ends the iteration for good": behind an end every step answers that end again
   pub ends : (next last : ℕ) → answerOf it ≡ Done (End next last) → answerOf (nextIter it) ≡ Done (End next last)
   -- a refusal leaves the iteration where it was

@@ -1,26 +1,29 @@
--- `merge::merge_using` meets its contract: by what is found of the edit list; once it is ready, the front of the index is the edits in name order.
+-- `merge::merge_with_digits` meets its contract: by what is found of the edit list; once it is ready, the front of the index is the edits in name order.
 use mathlib.Core.Path.{_≡_, refl, sym, ap, _∙_}
 use mathlib.Core.List.{List}
 use Prim.Native.Nat.{ℕ, _-_}
 use native.Mathlib.Nat.{sub-zero}
 use native.Mathlib.Omega.{arith}
 use lib.ListN.{length, take}
-use Rattle.class.specs.Class.{paper}
+use Rattle.class.specs.Class.{paper, classTable}
 use Rattle.class.proofs.Classes.{by-paper}
+use Rattle.edits.specs.declared.list.Prepared.{Prepared}
 use Rattle.edits.specs.declared.list.Prepared.the-variants.{Ready}
 use Rattle.edits.specs.List.{editsOf, placesOf, preparedOf, indexAfter}
-use Rattle.merge.specs.Entry.{editsAt}
-use Rattle.merge.specs.Merge.{newFile, oldEntries, editsInOrder, judged, outputBy}
+use Rattle.merge.specs.Override.{editsAt}
+use Rattle.merge.specs.declared.Merged.{Merged}
+use Rattle.merge.specs.Merge.{newFile, outputBy, oldEntries, judged, editsInOrder, listed, mergeOf, outputOf}
+use Rattle.merge.proofs.Answers.{list-refused}
 use Rattle.merge.proofs.EditsRise.{in-order-rising}
-use Rattle.merge.proofs.Ready.{places, ready, front-is, merge-using-list}
+use Rattle.merge.proofs.Ready.{places, ready, front-is}
 use borrow.Author.Needs.{needs}
-use Rattle.merge.proofs.merge_using.Statement.{statement}
-use Rattle.merge.proofs.merge_using.Tie as tie
+use Rattle.merge.proofs.merge_with_digits.Statement.{statement}
+use Rattle.merge.proofs.merge_with_digits.Tie as tie
 
 -- the edit list was read
 module _ (p : tie.After-prepare) where
   abbrev start : tie.Start
-  start = p .before .before .before .before .before .before
+  start = p .before .before .before .before .before .before .before .before
 
   abbrev n : ℕ
   n = start .args .n
@@ -37,11 +40,25 @@ module _ (p : tie.After-prepare) where
   abbrev out : List ℕ
   out = start .args .out .now
 
+  table-is : p .before .before .before .table .result ≡ classTable
+  table-is = p .before .before .before .table .ensures
+
   said : preparedOf paper n list (length index) ≡ p .prepare .result
-  said = sym (p .prepare .ensures .0 ∙ by-paper (λ byte. preparedOf byte n list (length index)) (start .pre .0))
+  said = sym (p .prepare .ensures .0 ∙ by-paper (λ byte. preparedOf byte n list (length index)) table-is)
 
   index-after : p .prepare .last .1 .1 .1 .0 ≡ indexAfter paper n list index
-  index-after = p .prepare .ensures .1 ∙ by-paper (λ byte. indexAfter byte n list index) (start .pre .0)
+  index-after = p .prepare .ensures .1 ∙ by-paper (λ byte. indexAfter byte n list index) table-is
+
+  abbrev new : List ℕ
+  new = newFile (oldEntries paper n old) (editsInOrder paper n old list)
+
+  merge-is : (q : Prepared) → p .prepare .result ≡ q → mergeOf paper n old list (length index) (length out) ≡ listed paper n old list (length out) q
+  unfolding mergeOf
+  merge-is q e = ap (listed paper n old list (length out)) (said ∙ e)
+
+  output-is : {answer : Merged} → mergeOf paper n old list (length index) (length out) ≡ answer → outputOf paper n old list (length index) out ≡ outputBy new out answer
+  unfolding outputOf
+  output-is e = ap (outputBy new out) e
 
 -- it is ready
 module _ (r : tie.After-k) where
@@ -68,6 +85,9 @@ module _ (r : tie.After-k) where
   unfolding editsInOrder
   edits-are = refl
 
+table-requires : tie.Need-table-requires
+table-requires c κs = search needs
+
 prepare-requires : tie.Need-prepare-requires
 prepare-requires c κs = search needs
 
@@ -82,18 +102,15 @@ part-with-edits-start c = search needs
 
 part-with-edits-end : tie.Need-part-with-edits-end
 part-with-edits-end c =
-    let r = c .before .before in
+    let r = c .before .before .before in
     omega (arith, ap length (index-after (prepared r)), ready paper (n (prepared r)) (list (prepared r)) (index (prepared r)) (k r) (is-ready r) .room-enough)
 
 with-edits-requires : tie.Need-with-edits-requires
 with-edits-requires c κs =
-    let r = c .before .before .before .before in
+    let r = c .before .before .before .before .before in
     let p = prepared r in
     let is = ready paper (n p) (list p) (index p) (k r) (is-ready r) in (
-      start p .pre .0,
-      start p .pre .1,
-      start p .pre .2,
-      start p .pre .3,
+      table-is p,
       omega (arith, ap length (part r), is .in-order, is .few),
       rw (part r) (in-order-rising (list p) (placesOf (editsOf paper (n p) (list p))) (is .no-twin)),
     )
@@ -119,16 +136,19 @@ same-length-2 c = search needs
 returns : tie.Need-returns
 returns c =
     let w = c .before .before in
-    let r = w .before .before .before .before .before in
-    let p = prepared r in (
-      w .with-edits .ensures .0
-          ∙ ap (λ l. judged paper (n p) (old p) (editsAt (n p) (list p) l) (length (out p))) (part r)
-          ∙ ap (λ edits. judged paper (n p) (old p) edits (length (out p))) (edits-are r)
-          ∙ sym (merge-using-list paper (n p) (old p) (list p) (length (index p)) (length (out p)) (Ready (k r)) (is-ready r)),
+    let r = w .before .before .before .before .before .before in
+    let p = prepared r in
+    let answer-is = w .with-edits .ensures .0
+    ∙ ap (λ l. judged paper (n p) (old p) (editsAt (n p) (list p) l) (length (out p))) (part r)
+    ∙ ap (λ edits. judged paper (n p) (old p) edits (length (out p))) (edits-are r)
+    ∙ sym (merge-is p (Ready (k r)) (r .k .given .1)) in (
+      answer-is,
       (
         index-after p,
-        w .with-edits .ensures .1 ∙ ap (λ l. outputBy (newFile (oldEntries paper (n p) (old p)) (editsAt (n p) (list p) l)) (out p) (w .with-edits .result)) (part r)
-            ∙ ap (λ edits. outputBy (newFile (oldEntries paper (n p) (old p)) edits) (out p) (w .with-edits .result)) (edits-are r),
+        w .with-edits .ensures .1
+            ∙ ap (λ l. outputBy (newFile (oldEntries paper (n p) (old p)) (editsAt (n p) (list p) l)) (out p) (w .with-edits .result)) (part r)
+            ∙ ap (λ edits. outputBy (newFile (oldEntries paper (n p) (old p)) edits) (out p) (w .with-edits .result)) (edits-are r)
+            ∙ sym (output-is p (sym answer-is)),
       ),
     )
 
@@ -138,7 +158,8 @@ same-length-3 c = search needs
 returns-2 : tie.Need-returns-2
 returns-2 c =
     let p = c .before .before .before .before .before in
-    (sym (merge-using-list paper (n p) (old p) (list p) (length (index p)) (length (out p)) _ (said p ∙ c .before .why .given .1)), (index-after p, refl))
+    let e = merge-is p _ (c .before .why .given .1) in
+    (sym e, (index-after p, sym (output-is p e ∙ list-refused (new p) (out p) (c .before .why .given .0 .0))))
 
 same-length-4 : tie.Need-same-length-4
 same-length-4 c = search needs
@@ -146,7 +167,8 @@ same-length-4 c = search needs
 returns-3 : tie.Need-returns-3
 returns-3 c =
     let p = c .before .before .before .before in
-    (sym (merge-using-list paper (n p) (old p) (list p) (length (index p)) (length (out p)) _ (said p ∙ c .enum-told .given .1)), (index-after p, refl))
+    let e = merge-is p _ (c .enum-told .given .1) in
+    (sym e, (index-after p, sym (output-is p e)))
 
 same-length-5 : tie.Need-same-length-5
 same-length-5 c = search needs
@@ -154,7 +176,8 @@ same-length-5 c = search needs
 returns-4 : tie.Need-returns-4
 returns-4 c =
     let p = c .before .before .before .before .before in
-    (sym (merge-using-list paper (n p) (old p) (list p) (length (index p)) (length (out p)) _ (said p ∙ c .before .place .given .1)), (index-after p, refl))
+    let e = merge-is p _ (c .before .place .given .1) in
+    (sym e, (index-after p, sym (output-is p e)))
 
 same-length-6 : tie.Need-same-length-6
 same-length-6 c = search needs
@@ -162,12 +185,14 @@ same-length-6 c = search needs
 returns-5 : tie.Need-returns-5
 returns-5 c =
     let p = c .before .before .before .before in
-    (sym (merge-using-list paper (n p) (old p) (list p) (length (index p)) (length (out p)) _ (said p ∙ c .enum-told2 .given .1)), (index-after p, refl))
+    let e = merge-is p _ (c .enum-told2 .given .1) in
+    (sym e, (index-after p, sym (output-is p e)))
 
-pub merge-using-spec : {M : Type 1} → statement M
-merge-using-spec =
+pub merge-with-digits-spec : {M : Type 1} → statement M
+merge-with-digits-spec =
     tie.close
     (tie.spec
+    table-requires
     prepare-requires
     enum-known-k
     sub-with-edits
