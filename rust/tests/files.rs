@@ -44,11 +44,13 @@ fn what_cannot_be_opened_says_why() {
     assert!(matches!(bad.trouble(), OpenTrouble::Refused(error) if error.number() == 4), "{bad}");
     // over the limit, told by the length alone
     let large = File::create(dir.path("large")).unwrap();
-    large.set_len(LARGEST_INPUT as u64 + 1).unwrap();
-    let begun = Instant::now();
-    let large = open(&dir.path("large"));
-    assert!(matches!(large.trouble(), OpenTrouble::Refused(error) if error.number() == 17), "{large}");
-    assert!(begun.elapsed() < Duration::from_secs(1));
+    for size in [LARGEST_INPUT as u64 + 1, 100 * LARGEST_INPUT as u64] {
+        large.set_len(size).unwrap();
+        let begun = Instant::now();
+        let large = open(&dir.path("large"));
+        assert!(matches!(large.trouble(), OpenTrouble::Refused(error) if error.number() == 17), "{large}");
+        assert!(begun.elapsed() < Duration::from_secs(5));
+    }
 }
 
 #[test]
@@ -151,15 +153,16 @@ fn a_lock_is_waited_for_and_given_back() {
     let waited = begun.elapsed();
     assert!(matches!(error.trouble(), SaveTrouble::Locked(lock) if *lock == *dir.path("table.lock")), "{error}");
     assert!(error.to_string().contains("table.lock is there: another program is writing"), "{error}");
-    assert!(waited >= LOCK_WAIT && waited < 3 * LOCK_WAIT, "{waited:?}");
-    // someone who needs it for less than that does not stop the next
+    assert!(waited >= LOCK_WAIT && waited < 20 * LOCK_WAIT, "{waited:?}");
+    // someone who needs it for less than the next one waits does not stop that one
     let begun = Instant::now();
     let holder = std::thread::spawn(move || {
         std::thread::sleep(Duration::from_millis(300));
         drop(lock);
     });
-    drop(Lock::take(&path, LOCK_WAIT).unwrap());
-    assert!(begun.elapsed() >= Duration::from_millis(250) && begun.elapsed() < LOCK_WAIT);
+    let patient = 20 * LOCK_WAIT;
+    drop(Lock::take(&path, patient).unwrap());
+    assert!(begun.elapsed() >= Duration::from_millis(250) && begun.elapsed() < patient);
     holder.join().unwrap();
     assert!(!dir.has("table.lock"));
     assert_eq!(dir.read("table"), b"old");
