@@ -28,13 +28,13 @@ use Rattle.put.specs.Put.{over}
 use Rattle.put.proofs.Laws.{over-fits}
 use Rattle.merge.specs.Override.{newOf, editsAt}
 use Rattle.merge.specs.Merge.{hasName, isIdle}
-use Rattle.runs.specs.Runs.{Run, run, runsOf, atEnd, marksOf, isStill}
+use Rattle.runs.specs.Runs.{Run, run, atEnd, marksOf, isStill}
 use Rattle.merge.specs.Splice.{Above, Rising}
 use Rattle.merge.proofs.Entries.{Ascends}
 use Rattle.merge.proofs.OldSound.{none-smaller, olds-ascend}
 use Rattle.merge.proofs.InOrder.{same-greater, lower}
 use Rattle.runs.proofs.RunSteps.{runs-less, runs-equal, runs-greater, length-runs}
-use Rattle.runs.proofs.RunTurns.{length-marks}
+use Rattle.runs.proofs.RunTurns.{runsOf, length-marks}
 
 -- ---- names
 

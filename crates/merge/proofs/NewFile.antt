@@ -29,12 +29,12 @@ use Rattle.put.proofs.Crs.{without-append}
 use Rattle.lines.specs.Lines.{linesOf, linesOfAll, headerLine}
 use Rattle.merge.specs.Override.{Override, editAt, editsAt}
 use Rattle.merge.specs.Merge.{overridden, newFile}
-use Rattle.runs.specs.Runs.{Run, run, runsOf, marksOf}
+use Rattle.runs.specs.Runs.{Run, run, marksOf}
 use Rattle.merge.specs.Splice.{spliced, splicedFile}
 use Rattle.merge.proofs.GoodItems.{OfGood}
 use Rattle.merge.proofs.OldLines.{PlainRecord, AllPlain, olds-plain}
 use Rattle.runs.proofs.RunSteps.{runs-less, runs-equal, runs-greater, length-runs}
-use Rattle.runs.proofs.RunTurns.{length-marks}
+use Rattle.runs.proofs.RunTurns.{runsOf, length-marks}
 use Rattle.merge.proofs.Splice.{newLines, oldBytes}
 
 -- ---- lines of more than one entry

@@ -8,8 +8,8 @@ use Rattle.compare.specs.declared.order.Order.the-variants.{Less, Equal, Greate
 use Rattle.compare.specs.Order.{orderOf}
 use Rattle.iter.specs.Items.{Item, nameOf}
 use Rattle.parts.specs.Parts.{editName}
-use Rattle.runs.specs.Runs.{run, settles, atEnd, runsOf}
-use Rattle.runs.proofs.RunTurns.{settles-le}
+use Rattle.runs.specs.Runs.{run, settles, atEnd}
+use Rattle.runs.proofs.RunTurns.{runsOf, settles-le}
 
 module _ (n : ℕ) (list : List ℕ) where
   pub runs-none : (place : ℕ) (l : List Item) → runsOf n list place l [] ≡ []

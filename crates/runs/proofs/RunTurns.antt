@@ -28,7 +28,14 @@ use Rattle.checks.proofs.CheckTurns.{Spot, Stopped}
 use Rattle.put.specs.Put.{over}
 use Rattle.put.proofs.Laws.{over-nil, over-twice}
 use Rattle.parts.specs.Parts.{editName}
-use Rattle.runs.specs.Runs.{Run, run, settles, atEnd, runsOf, surveyed, marksOf}
+use Rattle.runs.specs.Runs.{Run, run, settles, atEnd, surveyed, marksOf}
+
+-- the runs of the edits at ps among all the items, which are the old records of a file that passes the check
+abbrev pub runsOf : ℕ → List ℕ → ℕ → List Item → List ℕ → List Run
+runsOf n list place [] ps = atEnd place ps
+runsOf n list place (i ∷ l) ps =
+    let here = settles list (nameOf n i) place (place + length (i .bytes)) ps in
+    here ++ runsOf n list (place + length (i .bytes)) l (drop (length here) ps)
 
 pub marks-append : (a b : List Run) → marksOf (a ++ b) ≡ marksOf a ++ marksOf b
 marks-append [] b = refl

@@ -26,14 +26,8 @@ abbrev pub atEnd : ℕ → List ℕ → List Run
 atEnd place [] = []
 atEnd place (p ∷ ps) = run place place ∷ atEnd place ps
 
--- the runs of the edits at ps, where these items are the old records and the first of them begins at a place
-abbrev pub runsOf : ℕ → List ℕ → ℕ → List Item → List ℕ → List Run
-runsOf n list place [] ps = atEnd place ps
-runsOf n list place (i ∷ l) ps =
-    let here = settles list (nameOf n i) place (place + length (i .bytes)) ps in
-    here ++ runsOf n list (place + length (i .bytes)) l (drop (length here) ps)
-
--- the same up to the first fault of the check: behind it no edit gets a run
+-- the runs of the edits at ps, where these items are the old records and the first of them begins at a place; last is the name of the record before it.
+-- Behind the first fault of the check no edit gets a run
 abbrev pub surveyed : ℕ → List ℕ → ℕ → List ℕ → List Item → List ℕ → List Run
 surveyed n list place last [] ps = atEnd place ps
 surveyed n list place last (i ∷ l) ps =
