@@ -18,6 +18,10 @@ const ATTEMPTS: u32 = 5;
 /// So long is waited between two attempts.
 const PAUSE: Duration = Duration::from_millis(50);
 
+/// A file that was written to so shortly ago may still be in the making: whoever writes it in place may only be held up, and at the end of a line that does
+/// not show in the bytes.
+pub const QUIET: Duration = Duration::from_millis(50);
+
 /// Why a file could not be opened as a table.
 #[derive(Debug)]
 pub struct OpenError {
@@ -99,6 +103,7 @@ type Seen<'p> = Box<dyn FnMut(u64, Option<u64>) + 'p>;
 /// How a file is opened.
 ///
 /// The whole file is read. One that changes meanwhile (its size, its time of modification, or which file the path leads to) is read anew, a few times.
+/// One that was written to just now is looked at again after a while ([`QUIET`]), and if it changed, that counts as meanwhile.
 /// One of zero bytes is refused, unless it was said that it may be empty; one over the size limit is number 17, and is not read.
 ///
 /// ```
@@ -119,6 +124,7 @@ type Seen<'p> = Box<dyn FnMut(u64, Option<u64>) + 'p>;
 #[must_use = "nothing is opened yet"]
 pub struct Opener<'p> {
     may_be_empty: bool,
+    may_be_young: bool,
     seen: Option<Seen<'p>>,
 }
 
@@ -131,6 +137,12 @@ impl<'p> Opener<'p> {
     /// Whether a file of zero bytes is taken.
     pub fn may_be_empty(self, may_be_empty: bool) -> Opener<'p> {
         Opener { may_be_empty, ..self }
+    }
+
+    /// Whether a file that was written to just now is taken without a further look: for who asks only what is true of a part of a table, too, as that a
+    /// name is charted.
+    pub fn may_be_young(self, may_be_young: bool) -> Opener<'p> {
+        Opener { may_be_young, ..self }
     }
 
     /// Something that is told how far the reading is: the bytes read, and the file's length if it has one.
@@ -190,13 +202,16 @@ impl<'p> Opener<'p> {
             return self.read_all(file, None).map(Some);
         }
         let bytes = self.read_all(&mut file, Some(before.len()))?;
-        let after = file.metadata().map_err(unread)?;
-        // Another file in its place by now, or none, is a change too.
-        let there = fs::metadata(path).ok();
-        let is_same = state(&before) == state(&after) && there.is_some_and(|there| place(&there) == place(&before));
         // A length of 0 says nothing: files of /proc have it.
         let is_whole = before.len() == 0 || before.len() == bytes.len() as u64;
-        Ok((is_same && is_whole).then_some(bytes))
+        if !is_whole || !stands(path, &before) {
+            return Ok(None);
+        }
+        if !self.may_be_young && is_young(&before) {
+            std::thread::sleep(QUIET);
+            return Ok(stands(path, &before).then_some(bytes));
+        }
+        Ok(Some(bytes))
     }
 
     /// Reads to the end, or beyond the length that the file gave: it grew then, perhaps for ever. A length that is too large is refused unread.
@@ -237,14 +252,19 @@ fn unread(error: io::Error) -> OpenTrouble {
     }
 }
 
-/// What changes if an open file is written to.
-fn state(about: &Metadata) -> (u64, i64, i64) {
-    (about.size(), about.mtime(), about.mtime_nsec())
+/// Whether the path leads to the same file as before, which was not written to since. Another file in its place, or none, is a change too.
+fn stands(path: &Path, before: &Metadata) -> bool {
+    fs::metadata(path).is_ok_and(|now| state(&now) == state(before))
 }
 
-/// Which file it is.
-fn place(about: &Metadata) -> (u64, u64) {
-    (about.dev(), about.ino())
+/// Which file it is, and what changes if it is written to.
+fn state(about: &Metadata) -> (u64, u64, u64, i64, i64) {
+    (about.dev(), about.ino(), about.size(), about.mtime(), about.mtime_nsec())
+}
+
+/// Whether it was written to just now, or by a clock that is ahead of ours.
+fn is_young(about: &Metadata) -> bool {
+    about.modified().is_ok_and(|modified| !modified.elapsed().is_ok_and(|age| age >= QUIET))
 }
 
 /// A table with its bytes, which nobody has checked. Had by [`Opener::open`], or made of bytes that were read elsewhere.

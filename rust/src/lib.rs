@@ -66,7 +66,7 @@ mod table;
 pub use edits::{merge, Edits, Merged};
 pub use error::Error;
 pub use escape::Escaped;
-pub use file::{CheckedFile, OpenError, OpenTrouble, Opener, TableFile};
+pub use file::{CheckedFile, OpenError, OpenTrouble, Opener, TableFile, QUIET};
 pub use items::{Damage, Items};
 pub use lock::{merge_file, Lock, Lost, Rights, SaveError, SaveTrouble, Saved, LOCK_WAIT};
 pub use loose::{loose, Loose};

@@ -106,6 +106,33 @@ fn a_file_that_changes_while_it_is_read_is_read_anew() {
     assert!(matches!(error.trouble(), OpenTrouble::NotThere), "{error}");
 }
 
+/// A table that was written to just now may still be in the making: it is looked at again before anything is said of it.
+#[test]
+fn a_file_in_the_making_is_waited_for() {
+    let dir = Dir::new();
+    let path = dir.file("table", line('1', "refs/s/a").as_bytes());
+    let rest = dir.file("rest", line('2', "refs/s/b").as_bytes());
+    // a time ahead of our clock is just now, too, however long it takes to get there
+    File::options().append(true).open(&path).unwrap().set_modified(SystemTime::now() + Duration::from_secs(3600)).unwrap();
+    let mut part = part("part_in_the_making", "unlimited", &path);
+    // the rest is written while the opener waits
+    let line = format!("cat '{rest}' >>'{path}'");
+    part.env("LD_PRELOAD", common::shim(&dir, "meanwhile.c")).env("MEANWHILE_WAIT", "1").env("MEANWHILE_DO", line);
+    let ran = part.output().unwrap();
+    assert!(ran.status.success(), "{ran:?}");
+    assert_eq!(dir.read("table").len(), 100);
+}
+
+#[test]
+#[ignore = "a part of another test, in a process of its own"]
+fn part_in_the_making() {
+    let path = std::env::var("PART_FILE").unwrap();
+    let hasty = Opener::new().may_be_young(true).check(KIND, &path).unwrap();
+    assert_eq!(hasty.find("refs/s/b"), Ok(Found::Absent));
+    let table = Opener::new().check(KIND, &path).unwrap();
+    assert!(matches!(table.find("refs/s/b"), Ok(Found::Charted(_))));
+}
+
 /// Runs one of the tests below that are parts of others, in a process of its own with so many KiB of memory and a file in the environment.
 fn part(test: &str, memory: &str, file: &str) -> Command {
     let mut part = Command::new("sh");

@@ -4,13 +4,13 @@ use crate::descriptors;
 use crate::progress::Progress;
 use crate::refusal::{Refusal, Trouble};
 use crate::words::shown;
-use packed_refs::{Error, OpenError, OpenTrouble, Opener};
+use packed_refs::{Error, OpenError, OpenTrouble, Opener, QUIET};
 use std::ffi::{OsStr, OsString};
 use std::fs::{File, Metadata};
 use std::io::{self, Read};
 use std::os::unix::fs::MetadataExt;
 use std::path::{Path, PathBuf};
-use std::time::{Duration, SystemTime};
+use std::time::SystemTime;
 
 pub struct Input {
     /// As it was named: a path, or `-` for standard input.
@@ -24,9 +24,6 @@ pub struct Input {
 
 /// So often a table is read that may still be in the making.
 const ATTEMPTS: u32 = 5;
-
-/// A file that was written to so shortly ago may still be in the making: whoever writes it in place may only be held up at the end of a line.
-const QUIET: Duration = Duration::from_millis(50);
 
 impl Input {
     /// A table: a file, or standard input where it is called `-`. One of zero bytes is refused unless the options say that it may be empty: neither Git
@@ -78,7 +75,8 @@ impl Input {
         let name = shown(path);
         let before = std::fs::metadata(path).ok().filter(|_| path != "-").and_then(|about| State::of(&about));
         let progress = Progress::new(format!("reading {name}"), None);
-        let opener = Opener::new().may_be_empty(may_be_empty).progress(|done, total| progress.at_of(done, total));
+        // whether a young one is waited for hangs on the question: `find` sees to it
+        let opener = Opener::new().may_be_empty(may_be_empty).may_be_young(true).progress(|done, total| progress.at_of(done, total));
         let bytes = if path == "-" { opener.bytes_from(Standard::open(), path)? } else { opener.bytes(path)? };
         drop(progress);
         Ok(Input { before, ..Input::new(path, bytes) })
