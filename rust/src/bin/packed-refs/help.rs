@@ -29,6 +29,7 @@ exit status:
   0   charted, passed, done
   1   absent; merge: nothing to do
   2   no answer: unreadable or refused, for a reason given on standard error. Do not send.
+      report gives the damaged lines on standard output
   64  wrong usage
 With several names the worst answer decides. NUMBERS.md explains the numbers.
 ";
