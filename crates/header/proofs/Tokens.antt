@@ -9,8 +9,9 @@ use lib.ListN.{length, take, drop, length-drop}
 use lib.Seq.{drop-drop}
 use Rattle.parse.specs.Choice.{if}
 use Rattle.parse.specs.Run.{span}
+use Rattle.parse.specs.Split.{onFirst}
 use Rattle.header.specs.declared.Header.{Header}
-use Rattle.header.specs.Header.{onFirst, tokens, noted, allNoted}
+use Rattle.header.specs.Header.{tokens, noted, allNoted}
 
 abbrev pub word : List ℕ → ℕ
 word s = span (λ b. not (eqb b 32)) s

@@ -10,6 +10,7 @@ use Rattle.parse.specs.Limit.{overLimit}
 use Rattle.parse.specs.Line.{textAt, ended}
 use Rattle.compare.specs.Prefix.{begins, same}
 use Rattle.parse.specs.Run.{span}
+use Rattle.parse.specs.Split.{split}
 use Rattle.header.specs.declared.Peeled.the-variants.{Unspecified, Partial, Fully}
 use Rattle.header.specs.declared.Header.{Header}
 use Rattle.header.specs.declared.Opened as opened
@@ -23,15 +24,9 @@ mark = 35 ∷ 32 ∷ 112 ∷ 97 ∷ 99 ∷ 107 ∷ 45 ∷ 114 ∷ 101 ∷ 102 �
 
 -- ---- tokens
 
--- a byte put in front of the first word of a list; where there is no word, it becomes one
-abbrev pub onFirst : ℕ → List (List ℕ) → List (List ℕ)
-onFirst b [] = (b ∷ []) ∷ []
-onFirst b (w ∷ l) = (b ∷ w) ∷ l
-
 -- "Tokens are split at single spaces": a space is 32
 abbrev pub tokens : List ℕ → List (List ℕ)
-tokens [] = [] ∷ []
-tokens (b ∷ s) = if (eqb b 32) ([] ∷ tokens s) (onFirst b (tokens s))
+tokens s = split 32 s
 
 -- `fully-peeled`, `peeled`, `sorted`
 abbrev pub fullyPeeledWord : List ℕ

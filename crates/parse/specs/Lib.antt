@@ -3,3 +3,4 @@ pub mod Limit
 pub mod Line
 pub mod Part
 pub mod Run
+pub mod Split
