@@ -1,7 +1,7 @@
 """What the Rust answers, in the one-line form that compare/ours.c and the vectors use (compare/README.md), and which inputs lie outside the
 domain that both sides share. A question is (operation, kind, lent bytes and numbers ..); a merge's edits are a list of tuples."""
 import re
-from model import DIGITS, valid
+from model import DIGITS
 
 
 def hexed(b):
@@ -231,14 +231,12 @@ ONE_LEVEL = re.compile(rb"[A-Z_]+")
 
 
 def odd_name(name):
-    if ONE_LEVEL.fullmatch(name):
-        return "a name of one level"
-    return "an inner component ends in .lock" if b".lock/" in name and valid(name) else None
+    return "a name of one level" if ONE_LEVEL.fullmatch(name) else None
 
 
 def odd_file(b, kind):
     """A line whose name is judged otherwise. Records begin at line starts alone, so lines are enough."""
-    if b".lock/" not in b and not re.search(rb" [A-Z_]+\r?\n", b):
+    if not re.search(rb" [A-Z_]+\r?\n", b):
         return None
     n = DIGITS[kind]
     for line in b.split(b"\n"):

@@ -3,7 +3,7 @@
 that both share, and compares every answer. compare/run.sh builds both sides and starts it. OURS and ORACLE: the two programs. SHOW: if
 set, the smallest input is told for which a rule that leaves inputs out has to."""
 import collections, itertools, json, os, random, subprocess, sys, tempfile
-import inputs, model
+import git_judge, inputs, model
 from answers import Odd, asked, expected, ours_line, outside, edit_bytes
 
 BATCH = 20000
@@ -129,10 +129,24 @@ def added(count, seed):
     return t.report("merge by lists of edits as bytes, against a model of document 01")
 
 
+def by_git(count, seed):
+    """Names, against Git: short ones, and random ones without a NUL."""
+    t = Tally()
+    words = (("n", 1, b) for b in inputs.words([b"a", b"/", b".", b"@", b"{", b".lock", b"k"], 5))
+    random_ones = inputs.names(inputs.Make(random.Random(f"{seed} names for Git")))
+    for batch in batches(itertools.chain(words, itertools.islice(random_ones, count))):
+        good = git_judge.judged(q[2] for q in batch)
+        mine = answers(start(os.environ["OURS"], [ours_line(q) for q in batch]), len(batch))
+        for q, m in zip(batch, mine):
+            if q[2] in good:
+                t.add(q, "0" if good[q[2]] else "3", m)
+    return t.report("name, against Git")
+
+
 def main():
     count = int(sys.argv[1]) if len(sys.argv) > 1 else 100000
     seed = int(sys.argv[2]) if len(sys.argv) > 2 else 1
-    good = [compare(what, short, make, count, seed) for what, short, make in OPERATIONS] + [added(count, seed)]
+    good = [compare(what, short, make, count, seed) for what, short, make in OPERATIONS] + [by_git(count, seed), added(count, seed)]
     if not all(good):
         sys.exit("there are differences")
     print("no difference")

@@ -75,6 +75,9 @@ class Make:
         if k == 0:
             at = r.randrange(len(n) + 1)
             return n[:at] + bytes([r.choice(b" ~^:?*[\\\x00\x1f\x7f\x80\xff\t@{./")]) + n[at:]
+        if k == 1:
+            at = self.one_of(0, n.index(b"/"), n.rindex(b"/"), len(n), r.randrange(len(n) + 1))
+            return n[:at] + self.one_of(b".lock", b"x.lock", b".lock/", b"/.lock", b"/x.lock", b".lockx", b".lock.x", b".loc", b"lock", b".loc/k", b".Lock") + n[at:]
         return [b"", b"x", n + b".lock", n + b".", n.replace(b"/", b"//", 1), n + b"/", b"/" + n, n + b"@{", n.replace(b"/", b"/.", 1), n + b"/..", b"A", n.replace(b"/", b".lock/", 1)][r.randrange(12)]
 
     def line(self, kind, harm):
@@ -303,7 +306,7 @@ def merges(m):
 
 
 def short_contents():
-    yield from (("l", 1, b) for b in words([b"ref: ", b" ", b"a/b", b"1" * 40, b"2" * 39, b"g", b"\0", b"\r", b"\n", b".lock"], 4))
+    yield from (("l", 1, b) for b in words([b"ref: ", b" ", b"a/b", b"1" * 40, b"2" * 39, b"g", b"\0", b"\r", b"\n", b".lock", b".lock/c"], 4))
     yield from (("l", 2, b) for b in words([b"ref: ", b"a/b", b"1" * 64, b"1" * 63, b"a", b"g", b"\n"], 4))
 
 

@@ -1,13 +1,13 @@
 """A merge as document 01 has it, for what the port adds and the Rust therefore can't be asked: edit lists as bytes, 7 to 12, the index. Written from
-the document's text."""
+the document's text, and the name rules with document 02's request Four."""
 DIGITS = {1: 40, 2: 64}
 LIMIT = 4096
 
 
 def valid(n):
     parts = n.split(b"/")
-    return (len(parts) > 1 and all(parts) and not any(c.startswith(b".") for c in parts) and b".." not in n
-            and not any(b < 32 or b == 127 or b in b" ~^:?*[\\" for b in n) and not n.endswith((b".", b".lock")) and b"@{" not in n)
+    return (len(parts) > 1 and all(parts) and not any(c.startswith(b".") or c.endswith(b".lock") for c in parts) and b".." not in n
+            and not any(b < 32 or b == 127 or b in b" ~^:?*[\\" for b in n) and not n.endswith(b".") and b"@{" not in n)
 
 
 def edits_of(e, kind):

@@ -57,6 +57,8 @@ static void test_name(void)
 {
     SAME(packed_refs_name(BYTES("refs/s/a")), 0);
     SAME(packed_refs_name(BYTES("refs/s/a.lock")), 3);
+    SAME(packed_refs_name(BYTES("refs/s.lock/a")), 3);
+    SAME(packed_refs_name(BYTES("refs/s.lockb/a")), 0);
     SAME(packed_refs_name(BYTES("")), 3);
     SAME(packed_refs_name(LARGE), 17);
 }

@@ -59,6 +59,14 @@ def theirs(questions):
     return [(q, expected(q, said)) for q, said in zip(questions, oracle(questions)) if not outside(q, said)]
 
 
+def held_to_the_rust(names):
+    """Git's answers, of names: the Rust gives the same, but for names of one level."""
+    said_by_git = {name: str(number) for name, number in names}
+    for (_, _, name), number in theirs([("n", 1, name) for name in said_by_git]):
+        if number != said_by_git[name]:
+            raise SystemExit(f"{name!r}: Git says {said_by_git[name]}, the Rust {number}")
+
+
 def long_ones():
     """Names and edits around the limits."""
     for n in (127, 128, 129, 255, 256, 4095, 4096, 4097):
@@ -68,6 +76,15 @@ def long_ones():
         if n <= 4096:
             yield "m", 1, b"1" * 40 + b" " + name + b"\n", [("d", name), ("u", name[:-1] + b"y", b"\x77" * 20)], 2, 50000
             yield "m", 2, b"", [("u", name, b"\x55" * 32, b"\x66" * 32)], 1, 50000
+
+
+def in_each_place(names):
+    """A name in a record, looked up, in an edit, and as a symbolic target."""
+    for name in names:
+        record = b"1" * 40 + b" " + name + b"\n"
+        yield from (("i", 1, record), ("c", 1, record), ("f", 1, record, name), ("a", 1, record, name))
+        yield "m", 1, b"", [("u", name, b"\x77" * 20)], 1, 200
+        yield "l", 1, b"ref: " + name + b"\n"
 
 
 def main():
@@ -87,6 +104,7 @@ def main():
 
     comment("data/questions has the questions, stdout the answers. Made by vectors/answers.py; vectors/README.md says how to read them.")
     for title, names in git_names.answered():
+        held_to_the_rust(names)
         group(title, [asked_of(("n", 1, name), str(number)) for name, number in names], "Git")
     for what, short, make, n_short, n_random in GROUPS:
         rnd = random.Random(f"vectors {what}")
@@ -95,6 +113,7 @@ def main():
         asked = chosen(rnd, some, n_short, theirs)
         group(f"{what}, gix-ref 0.67.1", asked + chosen(rnd, list(itertools.islice(make(inputs.Make(rnd)), 6000)), n_random, theirs), "the Rust")
     group("names and edits around the limits, gix-ref 0.67.1", [asked_of(q, a) for q, a in theirs(list(long_ones()))], "the Rust")
+    group("lock names in each place, gix-ref 0.67.1", [asked_of(q, a) for q, a in theirs(list(in_each_place(git_names.LOCKS[:20])))], "the Rust")
     rnd = random.Random("vectors lists")
     of_model = lambda questions: [(q, model.merge(*q[1:])) for q in questions]
     asked = chosen(rnd, list(itertools.islice(inputs.lists(inputs.Make(rnd)), 6000)), 300, of_model)

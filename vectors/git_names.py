@@ -2,10 +2,6 @@
 import itertools
 import subprocess
 
-# The library's rule looks for `.lock` only at the end of the whole name; Git and its page look at every component.
-# Set this to False once the library does so too: such names then stay in their groups, as refused.
-LOCK_ONLY_AT_THE_END = True
-
 # The cases of Git's t/t1402-check-ref-format.sh that ask with no option.
 T1402 = [
     b"", b"/", b"foo/bar/baz", b"refs///heads/foo", b"heads/foo/", b"/heads/foo", b"///heads/foo", b"./foo", b"./foo/bar",
@@ -26,8 +22,13 @@ PLACES = [
     b"a/a%sa",
 ]
 
-# Lock names whose other components keep or break another rule: only `.lock` before the last component makes a difference.
+# Names around `.lock` at the end of a component: in the first, an inner and the last one, the word alone, longer by a letter, cut by a slash; and with
+# other components that keep or break another rule.
 LOCKS = [
+    b"a.lock/b", b"a/b.lock/c", b"a.lock.b/c", b"a.lockb/c", b"a.loc/k", b"a/.lock", b"a/x.lock", b".lock/b", b"a/.lock/b", b".lock/.lock", b"a/b/.lock",
+    b"a/lock", b"a/.loc/k", b"a./lock", b"a.l/ock", b"a.lo/ck", b"a/b./lock", b"a/b.l/ock", b"a/b.lo/ck", b"a/b.loc/k", b"a/b/.lock/c", b"a/b.lock/c.lock",
+    b"a.lock/b.lock/c.lock", b"a/lock/b", b"alock/b", b"a/block/c", b"a/b.LOCK/c", b"a/b.lock-/c", b"a/b.lock.lock/c", b"a/b.lockk/c", b"a/b.llock/c",
+    b"a/b.loock/c", b"a/bxlock/c", b"a/b.lock", b"refs/sent/ward4/o118.lock/e3", b"refs/sent/ward4/e3.lock", b"refs/sent/e3.lock/ward4/o118",
     b"x.lock/y", b"x.lock/y.lock", b"x.lock/y.lock/z", b"w/x.lock/y.lock/z", b"x.lock//y", b"x.lock/.y", b"x.lock/y.", b"x.lock/y..z",
     b"x.lock/y@{z", b"x.lock/y z", b"x.lock/y/", b"/x.lock/y", b".x.lock/y", b"x y.lock/z", b"x.lock/lock", b"x.lock/.loc",
     b"x.lock/y.loc", b"x.loc/k", b"x.l/ock", b"@.lock/y", b"x.lock@/y", b"x.lock\x01/y", b"x.lock\x80/y", b"x.lock/\xff", b"\xff.lock/y",
@@ -114,25 +115,11 @@ def number(name):
     return 0 if b"\0" not in name and accepts(name) else 3
 
 
-def is_inner_lock(name):
-    """Refused for a lock name before the last component alone: with another letter there, Git accepts it."""
-    return LOCK_ONLY_AT_THE_END and b".lock/" in name and b"\0" not in name and accepts(name.replace(b".lock/", b".locx/"))
-
-
 def answered():
-    """Each group's title and its names with their numbers; last those that the library accepts and Git does not."""
+    """Each group's title and its names with their numbers."""
     git = subprocess.run(["git", "version"], capture_output=True, text=True, check=True).stdout.strip()
-    seen, otherwise = set(), []
+    seen = set()
     for title, names in groups():
-        group = []
-        for name in names:
-            if name in seen:
-                continue
-            seen.add(name)
-            if is_inner_lock(name):
-                otherwise.append((name, 0))
-            else:
-                group.append((name, number(name)))
-        yield f"names, {git}: {title}", group
-    if otherwise:
-        yield f"names that {git} refuses, only because a component before the last ends in .lock: accepted for now", otherwise
+        new = [name for name in dict.fromkeys(names) if name not in seen]
+        seen.update(new)
+        yield f"names, {git}: {title}", [(name, number(name)) for name in new]

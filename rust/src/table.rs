@@ -120,6 +120,7 @@ pub fn header(file: impl AsRef<[u8]>) -> Result<Header, Error> {
 /// use packed_refs::check_name;
 /// assert!(check_name(b"refs/sent/ward4/o118/e3").is_ok());
 /// assert_eq!(check_name(b"refs/sent//e3").unwrap_err().number(), 3);
+/// assert_eq!(check_name(b"refs/sent/ward4.lock/e3").unwrap_err().number(), 3);
 /// ```
 pub fn check_name(name: impl AsRef<[u8]>) -> Result<(), Error> {
     match sys::name(name.as_ref()) {

@@ -135,7 +135,8 @@ fn messages_show_what_they_speak_of() {
         ("refs/.a", "'refs/.a'", "a part of it begins with a dot"),
         ("refs/a..b", "'refs/a..b'", "it holds two dots in a row"),
         ("refs/a.", "'refs/a.'", "it ends with a dot"),
-        ("refs/a.lock", "'refs/a.lock'", "it ends with .lock"),
+        ("refs/a.lock", "'refs/a.lock'", "a part of it ends with .lock"),
+        ("refs/e3.lock/a", "'refs/e3.lock/a'", "a part of it ends with .lock"),
         ("refs/a@{b", "'refs/a@{b'", "it holds @{"),
     ] {
         let words = format!("no answer for {quoted}: number 3: the name breaks the name rules: {rule}. Do not send. ");

@@ -4,7 +4,7 @@ use Rattle.class.specs.Class.{isHex, isForbidden, isLineEnd}
 use Rattle.parse.specs.Part.{byteAt}
 use Rattle.id.specs.Id.{idAt}
 use Rattle.parse.specs.Line.{eol, newlineAt, textAt}
-use Rattle.name.specs.Name.{noComponentBeginsWithDot, noLockAtTheEnd, hasSlash, noDotDot, noForbiddenByte, slashesApart, noDotAtTheEnd, noAtBrace, notTheLoneAt, validName}
+use Rattle.name.specs.Name.{validName}
 use Rattle.header.specs.Header.{headerOf}
 use Rattle.decode.specs.Record.{recordOf}
 use Rattle.start.specs.Start.{firstItem, startOf}
@@ -15,6 +15,5 @@ use Rattle.checks.specs.Check.{judgeBody, checkOf}
 use Rattle.checks.specs.Examples.{allComputed, cases}
 
 pub every-case : allComputed cases ≡ cases
-unfolding isHex isForbidden isLineEnd byteAt idAt eol newlineAt textAt headerOf recordOf firstItem startOf more stepOf iterate readOf sizeOf itemsBehind items judgeBody checkOf
-    noComponentBeginsWithDot noLockAtTheEnd hasSlash noDotDot noForbiddenByte slashesApart noDotAtTheEnd noAtBrace notTheLoneAt validName
+unfolding isHex isForbidden isLineEnd byteAt idAt eol newlineAt textAt headerOf recordOf firstItem startOf more stepOf iterate readOf sizeOf itemsBehind items judgeBody checkOf validName
 every-case = refl

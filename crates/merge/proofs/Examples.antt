@@ -6,7 +6,7 @@ use Rattle.id.specs.Id.{idAt}
 use Rattle.parse.specs.Limit.{digitsOf, overLimit, admission}
 use Rattle.parse.specs.Line.{eol, newlineAt, textAt}
 use Rattle.parse.specs.Part.{byteAt}
-use Rattle.name.specs.Name.{noComponentBeginsWithDot, noLockAtTheEnd, hasSlash, noDotDot, noForbiddenByte, slashesApart, noDotAtTheEnd, noAtBrace, notTheLoneAt, validName}
+use Rattle.name.specs.Name.{validName}
 use Rattle.header.specs.Header.{noted, firstLine, headerOf}
 use Rattle.decode.specs.Record.{recordOf}
 use Rattle.checks.specs.Check.{judgeBody, checkOf}
@@ -27,8 +27,7 @@ as-long-as-said = refl
 
 pub every-case : allComputed cases ≡ cases
 unfolding isHex isForbidden isLineEnd byteAt idAt eol newlineAt textAt noted firstLine headerOf recordOf sizeOf itemsBehind items judgeBody checkOf
-    noComponentBeginsWithDot noLockAtTheEnd hasSlash noDotDot noForbiddenByte slashesApart noDotAtTheEnd noAtBrace notTheLoneAt validName
-    digitsOf overLimit admission lengthAt editOf namedEdit behindName editName before sorted firstTwin editsFrom editsOf twinsOf preparedOf indexAfter
+    validName digitsOf overLimit admission lengthAt editOf namedEdit behindName editName before sorted firstTwin editsFrom editsOf twinsOf preparedOf indexAfter
     hexDigit newFile finished oldEntries judged editsInOrder mergeOf outputOf mergeAnswer outputAfter indexAnswer
 every-case = refl
 

@@ -6,10 +6,9 @@ use Prim.Native.Nat.{ℕ, zero, suc, _+_, _≤_, _<_}
 use native.Mathlib.Nat.{add-zero}
 use native.Mathlib.Numerals.{towards-suc}
 use native.Mathlib.Omega.{arith}
-use borrow.Author.Tests.{le-leb}
-use lib.Dec.{leb, eqb}
+use lib.Dec.{eqb}
 use lib.ListN.{length, getD, take, drop}
-use lib.Seq.{length-take-le, slice-cons, slice-empty, take-length}
+use lib.Seq.{length-take-le, slice-cons, slice-empty}
 use Rattle.compare.specs.Prefix.{same}
 use Rattle.name.specs.Words.{ends}
 use Rattle.name.specs.Name.{dotLock}
@@ -57,7 +56,3 @@ module _ (s : List ℕ) (at : ℕ) (fits : at ≤ length s) where
       && eqb (getD s (k + 3) 0) 99
       && eqb (getD s (k + 4) 0) 107
   lock-stands k h = rw (ends-stands dotLock k h) (simp (towards-suc, and-true, and-assoc))
-
--- the end of the string is such a place
-pub lock-whole : (s : List ℕ) → leb (length s) (length s) && ends dotLock (take (length s) s) ≡ ends dotLock s
-lock-whole s = rw (le-leb (length s) (length s) (omega arith), take-length s)

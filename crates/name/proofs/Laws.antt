@@ -1,7 +1,7 @@
 -- The laws of a valid name, which are all that the crates above may use of the rules. Assumes nothing.
 use mathlib.Core.Path.{_≡_, refl}
 use mathlib.Core.Logic.{_↔_}
-use mathlib.Core.Bool.{Bool, true, false, not, _&&_, _||_, and-eq-true-iff, and-false}
+use mathlib.Core.Bool.{Bool, true, false, not, _&&_, _||_, and-false}
 use mathlib.Core.List.{List, [], _∷_}
 use Prim.Native.Nat.{ℕ, zero, suc, _<_}
 use native.Mathlib.Omega.{arith}
@@ -10,13 +10,14 @@ use lib.Dec.{eqb}
 use lib.ListN.{length, getD}
 use Rattle.class.specs.Class.{Classes, paper, isForbidden, isLineEnd}
 use Rattle.name.specs.Words.{all}
-use Rattle.name.specs.Name.{noComponentBeginsWithDot, noLockAtTheEnd, hasSlash, noDotDot, noForbiddenByte, slashesApart, noDotAtTheEnd, noAtBrace, notTheLoneAt, validName}
+use Rattle.name.specs.Name.{noComponentBeginsWithDot, noComponentEndsWithLock, hasSlash, noDotDot, noForbiddenByte, slashesApart, noDotAtTheEnd, noAtBrace, notTheLoneAt, validName}
+use Rattle.name.proofs.Bools.{and-left, and-right}
 
 -- ---- a valid name keeps each rule, and what keeps each rule is a valid name
 
 pub record Rules (byte : Classes) (s : List ℕ) : Type 0 where
   pub componentDot : noComponentBeginsWithDot s ≡ true
-  pub lock : noLockAtTheEnd s ≡ true
+  pub lock : noComponentEndsWithLock s ≡ true
   pub slash : hasSlash s ≡ true
   pub dotDot : noDotDot s ≡ true
   pub bytes : noForbiddenByte byte s ≡ true
@@ -24,12 +25,6 @@ pub record Rules (byte : Classes) (s : List ℕ) : Type 0 where
   pub lastDot : noDotAtTheEnd s ≡ true
   pub atBrace : noAtBrace s ≡ true
   pub loneAt : notTheLoneAt s ≡ true
-
-and-left : (a b : Bool) → a && b ≡ true → a ≡ true
-and-left a b h = and-eq-true-iff a b .0 h .0
-
-and-right : (a b : Bool) → a && b ≡ true → b ≡ true
-and-right a b h = and-eq-true-iff a b .0 h .1
 
 each : (byte : Classes) (s : List ℕ) → validName byte s ≡ true → Rules byte s
 unfolding validName
@@ -44,7 +39,6 @@ rules byte s = (each byte s, whole byte s)
 
 -- rule 9 follows from rule 2
 pub lone-at : (s : List ℕ) → hasSlash s ≡ true → notTheLoneAt s ≡ true
-unfolding hasSlash notTheLoneAt
 lone-at [] h = refl
 lone-at (b ∷ []) h = go (eqb b 64) refl
   where
@@ -56,7 +50,7 @@ lone-at (b ∷ c ∷ s) h = rw and-false
 -- ---- there is a byte
 
 pub not-empty : (byte : Classes) → validName byte [] ≡ false
-unfolding validName noComponentBeginsWithDot noLockAtTheEnd hasSlash
+unfolding validName
 not-empty byte = refl
 
 pub valid-some : (byte : Classes) (s : List ℕ) → validName byte s ≡ true → 0 < length s
@@ -72,7 +66,6 @@ all-at p (b ∷ s) (suc i) h l = all-at p s i (and-right (p b) (all p s) h) (ome
 
 pub valid-allowed : (byte : Classes) (s : List ℕ) → validName byte s ≡ true → (i : ℕ) → i < length s
     → byte .forbidden (getD s i 0) ≡ false
-unfolding noForbiddenByte
 valid-allowed byte s h i l = not-true _ (all-at (λ b. not (byte .forbidden b)) s i (rules byte s .0 h .bytes) l)
 
 -- CR and LF are forbidden

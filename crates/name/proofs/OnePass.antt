@@ -10,8 +10,10 @@ use lib.Seq.{drop-cons}
 use Rattle.class.specs.Class.{Classes}
 use Rattle.compare.specs.Prefix.{begins}
 use Rattle.name.specs.Words.{contains, ends, all}
-use Rattle.name.specs.Name.{dot, dotDot, slash, slashSlash, atBrace, dotLock, noComponentBeginsWithDot, noLockAtTheEnd, hasSlash, noDotDot, noForbiddenByte, slashesApart, noDotAtTheEnd, noAtBrace, notTheLoneAt, validName}
-use Rattle.name.proofs.Laws.{lone-at}
+use Rattle.name.specs.Name.{dot, dotDot, slash, slashSlash, atBrace, hasSlash, noDotDot, noForbiddenByte, slashesApart, noDotAtTheEnd, noAtBrace, notTheLoneAt, validName}
+use Rattle.name.proofs.Bools.{and-left-comm, not-or}
+use Rattle.name.proofs.Components.{locked, no-dots, no-locks}
+use Rattle.name.proofs.Laws.{lone-at, not-empty}
 
 -- b may stand right behind a, as `may_follow` promises: it is allowed, and the two are none of `/.` `..` `//` `@{`
 abbrev pub follows : Classes → ℕ → ℕ → Bool
@@ -38,15 +40,6 @@ module _ (byte : Classes) (slashed : Bool) (a : ℕ) (s : List ℕ) (i : ℕ) wh
   pass-end h = rw (drop-of-length-le s h)
 
 -- ---- the pass is the rules
-
-not-or : (a b : Bool) → not (a || b) ≡ (not a && not b)
-not-or true b = refl
-not-or false b = refl
-
-and-left-comm : (a b c : Bool) → (a && (b && c)) ≡ (b && (a && c))
-and-left-comm true b c = refl
-and-left-comm false true c = refl
-and-left-comm false false c = refl
 
 -- what is asked of the byte at hand (small letters) joins what is asked of the rest (capitals)
 join : (f p q r t h F P Q R T E D : Bool)
@@ -76,9 +69,10 @@ settle : (d l h q f b e c z w o : Bool) → (h ≡ true → not o ≡ true)
 settle d l false q f b e c z w o lone = simp and-false
 settle d l true q f b e c z w o lone = simp (lone refl, not-or, and-true, and-assoc, and-comm, and-left-comm)
 
--- Behind a slash (47) the pass judges a whole name: `contains (47 ∷ w) (47 ∷ s)` computes to
--- `begins w s || contains (47 ∷ w) s`, so that what a component may not begin with is a pair like the others.
-pub valid-pass : (byte : Classes) (s : List ℕ) → validName byte s ≡ (pass byte false 47 s && not (ends dotLock s))
-unfolding validName noComponentBeginsWithDot noLockAtTheEnd hasSlash noDotDot noForbiddenByte slashesApart noDotAtTheEnd noAtBrace notTheLoneAt
-valid-pass byte [] = refl
-valid-pass byte (b ∷ s) = let lone = lone-at (b ∷ s) in rw (settle, apart byte false 47 (b ∷ s))
+-- Behind a slash (47) the pass judges a whole name, so that what a component may not begin with is a pair like the others.
+pub valid-pass : (byte : Classes) (s : List ℕ) → validName byte s ≡ (pass byte false 47 s && not (locked [] s))
+unfolding validName
+valid-pass byte [] = not-empty byte
+valid-pass byte (b ∷ s) =
+    let lone = lone-at (b ∷ s) in
+    rw (no-dots (b ∷ s), no-locks (b ∷ s), settle, apart byte false 47 (b ∷ s))

@@ -1,2 +1,3 @@
+pub mod ByLetters
 pub mod Name
 pub mod Words

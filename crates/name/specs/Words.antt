@@ -1,4 +1,4 @@
--- Words in a byte string: standing in it, ending it, beginning one of its components.
+-- Words in a byte string: standing in it, ending it; and a test that all of a list pass.
 use mathlib.Core.Bool.{Bool, true, _&&_, _||_}
 use mathlib.Core.List.{List, [], _∷_}
 use Prim.Native.Nat.{ℕ}
@@ -14,11 +14,7 @@ abbrev pub ends : List ℕ → List ℕ → Bool
 ends w [] = same w []
 ends w (b ∷ s) = same w (b ∷ s) || ends w s
 
--- a component of s, which lie between slashes (47), begins with w: s does, or w stands behind a slash
-abbrev pub componentBegins : List ℕ → List ℕ → Bool
-componentBegins w s = begins w s || contains (47 ∷ w) s
-
--- every byte of s passes the test
-abbrev pub all : (ℕ → Bool) → List ℕ → Bool
+-- every one of them passes the test
+abbrev pub all {ℓ} : {A : Type ℓ} → (A → Bool) → List A → Bool
 all p [] = true
 all p (b ∷ s) = p b && all p s

@@ -30,6 +30,9 @@ pub fn is_valid_using(t: &[u8; 256], s: &[u8]) -> bool
         if !may_follow(t, before, b) {
             return false;
         }
+        if (b == b'/') && lock_before(s, i) {
+            return false;
+        }
         slash = slash | (b == b'/');
         before = b;
         i += 1;
@@ -70,10 +73,10 @@ fn lock_before(s: &[u8], at: usize) -> bool
     if at < 5 {
         return false;
     }
+    // The last letter first: most components end otherwise, and then no other is read.
     let start = at - 5;
-    (s[start] == b'.')
-        & (s[start + 1] == b'l')
-        & (s[start + 2] == b'o')
-        & (s[start + 3] == b'c')
-        & (s[start + 4] == b'k')
+    if s[start + 4] != b'k' {
+        return false;
+    }
+    (s[start] == b'.') & (s[start + 1] == b'l') & (s[start + 2] == b'o') & (s[start + 3] == b'c')
 }

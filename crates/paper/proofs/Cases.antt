@@ -5,7 +5,7 @@ use Rattle.parse.specs.Part.{byteAt}
 use Rattle.id.specs.Id.{idAt}
 use Rattle.parse.specs.Limit.{digitsOf, overLimit, admission}
 use Rattle.parse.specs.Line.{eol, newlineAt, textAt}
-use Rattle.name.specs.Name.{noComponentBeginsWithDot, noLockAtTheEnd, hasSlash, noDotDot, noForbiddenByte, slashesApart, noDotAtTheEnd, noAtBrace, notTheLoneAt, validName}
+use Rattle.name.specs.Name.{validName}
 use Rattle.header.specs.Header.{headerOf}
 use Rattle.decode.specs.Record.{recordOf}
 use Rattle.probe.specs.Shape.{shapeOf}
@@ -29,7 +29,6 @@ use Rattle.paper.specs.Cases.{EveryCase}
 
 pub every-case : EveryCase
 unfolding isHex isForbidden isLineEnd byteAt idAt eol newlineAt textAt headerOf recordOf shapeOf recordStart firstItem startOf more stepOf iterate readOf sizeOf itemsBehind items
-    noComponentBeginsWithDot noLockAtTheEnd hasSlash noDotDot noForbiddenByte slashesApart noDotAtTheEnd noAtBrace notTheLoneAt validName
-    judgeBody checkOf checkAnswer probedOf halve searchOf lookupOf lookupAnswer lengthAt symbolicOf looseOf looseAnswer admission digitsOf overLimit
+    validName judgeBody checkOf checkAnswer probedOf halve searchOf lookupOf lookupAnswer lengthAt symbolicOf looseOf looseAnswer admission digitsOf overLimit
     editOf namedEdit behindName editName sorted firstTwin editsFrom editsOf twinsOf preparedOf finished oldEntries judged editsInOrder mergeOf mergeAnswer
 every-case = refl

@@ -4,7 +4,7 @@ use Rattle.class.specs.Class.{isHex, isForbidden, isLineEnd}
 use Rattle.parse.specs.Part.{byteAt}
 use Rattle.id.specs.Id.{idAt}
 use Rattle.parse.specs.Line.{eol, newlineAt, textAt}
-use Rattle.name.specs.Name.{noComponentBeginsWithDot, noLockAtTheEnd, hasSlash, noDotDot, noForbiddenByte, slashesApart, noDotAtTheEnd, noAtBrace, notTheLoneAt, validName}
+use Rattle.name.specs.Name.{validName}
 use Rattle.header.specs.Header.{headerOf}
 use Rattle.decode.specs.Record.{recordOf}
 use Rattle.probe.specs.Shape.{shapeOf}
@@ -18,6 +18,5 @@ use Rattle.paper.specs.Lookups.{allComputed, cases}
 
 pub every-case : allComputed cases ≡ cases
 unfolding isHex isForbidden isLineEnd byteAt idAt eol newlineAt textAt headerOf recordOf shapeOf recordStart sizeOf itemsBehind items judgeBody
-    noComponentBeginsWithDot noLockAtTheEnd hasSlash noDotDot noForbiddenByte slashesApart noDotAtTheEnd noAtBrace notTheLoneAt validName
-    probedOf halve searchOf lookupOf soughtFrom askBody askOf
+    validName probedOf halve searchOf lookupOf soughtFrom askBody askOf
 every-case = refl

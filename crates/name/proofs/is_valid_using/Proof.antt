@@ -1,22 +1,23 @@
 -- `name::is_valid_using` meets its contract. The invariant: the name is valid exactly if its bytes from i on pass, and
--- `.lock` does not end it. The measure is what is left of the length. Assumes nothing.
-use mathlib.Core.Path.{_≡_}
-use mathlib.Core.Bool.{not, _&&_}
+-- `.lock` ends no component that ends at i or behind it. The measure is what is left of the length. Assumes nothing.
+use mathlib.Core.Path.{_≡_, sym, _∙_}
+use mathlib.Core.Logic.{⊎-elim}
+use mathlib.Core.Bool.{false, not, _&&_, and-false}
 use Prim.Native.Nat.{_-_}
 use borrow.Author.Needs.{needs}
-use borrow.Author.Tests.{not-true, not-false}
-use lib.ListN.{length, drop}
+use borrow.Author.Tests.{not-true, not-false, ne-eqb}
+use lib.Dec.{eqb}
+use lib.ListN.{length, getD, take, drop}
 use Rattle.class.specs.Class.{classesOf}
-use Rattle.name.specs.Words.{ends}
-use Rattle.name.specs.Name.{dotLock, validName}
-use Rattle.name.proofs.Ends.{lock-whole}
+use Rattle.name.specs.Name.{validName}
+use Rattle.name.proofs.Components.{locked, lockBefore, locked-at, locked-end}
 use Rattle.name.proofs.OnePass.{pass, valid-pass, pass-at, pass-end}
 use Rattle.name.proofs.is_valid_using.Statement.{statement}
 use Rattle.name.proofs.is_valid_using.Tie as tie
 
 abbrev Inv-loop : tie.InvT-loop
 Inv-loop t s before₀ slash₀ i₀ before slash i =
-    validName (classesOf t) s ≡ (pass (classesOf t) slash before (drop i s) && not (ends dotLock s))
+    validName (classesOf t) s ≡ (pass (classesOf t) slash before (drop i s) && not (locked (take i s) (drop i s)))
 
 abbrev μ-loop : tie.MeasureT-loop
 μ-loop t s before₀ slash₀ i₀ before slash i = length s - i
@@ -38,27 +39,47 @@ returns c =
     let told = c .before .may-follow in
     rw (turn .before .loop .inv, pass-at, ← told .ensures, not-true (told .result) (c .if1 .taken))
 
+lock-before-requires : tie.Need-lock-before-requires Inv-loop μ-loop
+lock-before-requires c κs = search needs
+
+-- `.lock` before a slash: a component that ends here
+returns-2 : tie.Need-returns-2 Inv-loop μ-loop
+returns-2 c =
+    let asked = c .before in
+    let slash = asked .before in
+    let turn = slash .before .before .before .before in
+    let more = turn .loop-test .taken in
+    let lock = sym (asked .lock-before .ensures) ∙ c .if3 .taken in
+    rw (turn .before .loop .inv, locked-at, slash .if2 .taken, lock, and-false)
+
 add-i : tie.Need-add-i Inv-loop μ-loop
 add-i c = search needs
 
 loop-less : tie.Need-loop-less Inv-loop μ-loop
 loop-less c = search needs
 
+-- a byte before which no component ends with `.lock`: `.lock` does not stand before it, or it is no slash
+unlocked : (c : tie.Joined2 Inv-loop μ-loop)
+    → let turn = c .before .before .before .before in
+    let s = turn .before .before .before .args .s .now in
+    (eqb (getD s (turn .before .loop .i) 0) 47 && lockBefore s (turn .before .loop .i)) ≡ false
+unlocked c = ⊎-elim (λ w. rw (sym (w .1 .ensures) ∙ w .2 .left, and-false)) (λ w. rw (ne-eqb _ _ (w .left))) (c .if2 .came)
+
 loop-again : tie.Need-loop-again Inv-loop μ-loop
 loop-again c =
-    let turn = c .before .before .before in
+    let allowed = c .before in
+    let turn = allowed .before .before .before in
     let more = turn .loop-test .taken in
-    let told = c .before .may-follow in
-    rw (pass-at, ← told .ensures, not-false (told .result) (c .if1 .left)) at (turn .before .loop .inv)
+    let told = allowed .before .may-follow in
+    rw (pass-at, ← told .ensures, not-false (told .result) (allowed .if1 .left), locked-at, unlocked c) at (turn .before .loop .inv)
 
-lock-before-requires : tie.Need-lock-before-requires Inv-loop μ-loop
-lock-before-requires c κs = search needs
+lock-before-requires-2 : tie.Need-lock-before-requires-2 Inv-loop μ-loop
+lock-before-requires-2 c κs = search needs
 
--- the end: `over` is what `pass-end` asks
-returns-2 : tie.Need-returns-2 Inv-loop μ-loop
-returns-2 c =
+returns-3 : tie.Need-returns-3 Inv-loop μ-loop
+returns-3 c =
     let over = c .before .loop-test .left in
-    rw (c .before .before .loop .inv, pass-end, c .lock-before .ensures, lock-whole)
+    rw (c .before .before .loop .inv, pass-end, locked-end, c .lock-before2 .ensures)
 
 pub is-valid-using-spec : {M : Type 1} → statement M
 is-valid-using-spec =
@@ -70,8 +91,10 @@ is-valid-using-spec =
     shared-slice-read-b
     may-follow-requires
     returns
+    lock-before-requires
+    returns-2
     add-i
     loop-less
     loop-again
-    lock-before-requires
-    returns-2)
+    lock-before-requires-2
+    returns-3)

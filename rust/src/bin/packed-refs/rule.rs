@@ -25,14 +25,12 @@ pub fn broken(name: &[u8]) -> &'static str {
         "it holds two dots in a row"
     } else if name.ends_with(b".") {
         "it ends with a dot"
-    } else if name.ends_with(b".lock") {
-        "it ends with .lock"
+    } else if components().any(|component| component.ends_with(b".lock")) {
+        "a part of it ends with .lock"
     } else if has(b"@{") {
         "it holds @{"
     } else if !name.contains(&b'/') {
         "it has no slash"
-    } else if components().any(|component| component.ends_with(b".lock")) {
-        "a part of it ends with .lock"
     } else {
         "it breaks the name rules"
     }
@@ -43,13 +41,13 @@ mod tests {
     use super::broken;
     use packed_refs::check_name;
 
-    /// Every name of up to six bytes out of those that a rule speaks of: a name that the library refuses has its reason, and another has none.
+    /// Every name of up to six bytes or words out of those that a rule speaks of: a name that the library refuses has its reason, and another has none.
     #[test]
     fn every_refused_name_has_its_rule() {
-        let letters = b"a/.@{ ~\x1f";
+        let words: [&[u8]; 9] = [b"a", b"/", b".", b".lock", b"@", b"{", b" ", b"~", b"\x1f"];
         let mut names = vec![Vec::new()];
         for _ in 0..6 {
-            let longer = names.iter().flat_map(|name: &Vec<u8>| letters.iter().map(move |b| [&name[..], &[*b]].concat()));
+            let longer = names.iter().flat_map(|name: &Vec<u8>| words.iter().map(move |word| [&name[..], *word].concat()));
             let longer: Vec<Vec<u8>> = longer.collect();
             for name in &longer {
                 let has_none = broken(name) == "it breaks the name rules";
@@ -58,7 +56,8 @@ mod tests {
             names = longer;
         }
         assert_eq!(broken(b""), "it is empty");
-        assert_eq!(broken(b"refs/a.lock"), "it ends with .lock");
+        assert_eq!(broken(b"refs/a.lock"), "a part of it ends with .lock");
+        assert_eq!(broken(b"refs/e3.lock/a"), "a part of it ends with .lock");
         assert_eq!(broken(b"refs/a:b"), "it holds one of ~ ^ : ? * [ \\");
     }
 }
