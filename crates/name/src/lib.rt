@@ -51,14 +51,15 @@ fn may_follow(t: &[u8; 256], before: u8, b: u8) -> bool
     if class::is_forbidden(t, b) {
         return false;
     }
-    if b == b'.' {
-        return (before != b'/') & (before != b'.');
+    // Letters and digits, which most bytes are, stand behind the slash (47) and the dot (46).
+    if b'/' < b {
+        return (before != b'@') | (b != b'{');
     }
     if b == b'/' {
         return before != b'/';
     }
-    if b == b'{' {
-        return before != b'@';
+    if b == b'.' {
+        return (before != b'/') & (before != b'.');
     }
     true
 }
