@@ -138,6 +138,7 @@ static void test_check(void)
     check(__LINE__, packed_refs_check(1, BYTES(OLD)), 0, 0, 2, 0);
     check(__LINE__, packed_refs_check(1, BYTES("# other\n")), 2, 0, 0, 7);
     check(__LINE__, packed_refs_check(2, BYTES(OLD)), 4, 46, 0, 0);
+    check(__LINE__, packed_refs_check(1, BYTES(LINE_A ONES " refs/s.lock/a\n")), 4, 50, 0, 0);
     check(__LINE__, packed_refs_check(1, BYTES(LINE_C LINE_A)), 6, 92, 0, 0);
     check(__LINE__, packed_refs_check(0, BYTES(OLD)), 1, 0, 0, 0);
     check(__LINE__, packed_refs_check(1, LARGE), 17, 0, 0, 0);
@@ -167,6 +168,7 @@ static void test_lookup(void)
     lookup(__LINE__, packed_refs_lookup(2, BYTES(ONES "111111111111111111111111 refs/s/a\n"), BYTES("refs/s/a")), 0, 0, 65, 8, 0);
     lookup(__LINE__, packed_refs_lookup(1, BYTES(LINE_A LINE_C), BYTES("refs/s/b")), 5, 0, 0, 0, 0);
     lookup(__LINE__, packed_refs_lookup(1, BYTES(LINE_A LINE_C), BYTES("refs")), 3, 0, 0, 0, 0);
+    lookup(__LINE__, packed_refs_lookup(1, BYTES(LINE_A LINE_C), BYTES("refs/s.lock/a")), 3, 0, 0, 0, 0);
     lookup(__LINE__, packed_refs_lookup(1, BYTES(LINE_A TWOS " refs/s/c\n^zz\n"), BYTES("refs/s/c")), 4, 50, 0, 0, 0);
     lookup(__LINE__, packed_refs_lookup(1, BYTES("x\n"), BYTES("refs/s/c")), 4, 0, 0, 0, 0);
     lookup(__LINE__, packed_refs_lookup(3, BYTES(LINE_A), BYTES("refs/s/a")), 1, 0, 0, 0, 0);
@@ -209,6 +211,7 @@ static void test_ask(void)
     ask(__LINE__, packed_refs_ask(1, BYTES(OLD), BYTES("refs/s/c")), 0, 96, 137, 8, 147, 0);
     ask(__LINE__, packed_refs_ask(1, BYTES(OLD), BYTES("refs/s/b")), 5, 0, 0, 0, 0, 0);
     ask(__LINE__, packed_refs_ask(1, BYTES(OLD), BYTES("refs")), 3, 0, 0, 0, 0, 0);
+    ask(__LINE__, packed_refs_ask(1, BYTES(OLD), BYTES("refs/s.lock/a")), 3, 0, 0, 0, 0, 0);
     ask(__LINE__, packed_refs_ask(1, BYTES("# other\n"), BYTES("refs/s/a")), 2, 0, 0, 0, 0, 7);
     ask(__LINE__, packed_refs_ask(1, BYTES(LINE_A "x\n"), BYTES("refs/s/b")), 4, 50, 0, 0, 0, 0);
     ask(__LINE__, packed_refs_ask(1, BYTES(LINE_C LINE_A), BYTES("refs/s/b")), 6, 92, 0, 0, 0, 0);
@@ -243,6 +246,7 @@ static void test_merge(void)
     merge(__LINE__, packed_refs_merge(1, LARGE, BYTES(UPDATE_B), index, 4, out, 200), 17, 0, 0, 0);
     merge(__LINE__, packed_refs_merge(1, BYTES(OLD), BYTES(DELETE_C "\3"), index, 4, out, 200), 7, 10, 0, 0);
     merge(__LINE__, packed_refs_merge(1, BYTES(OLD), BYTES(DELETE_C "\0\4refs"), index, 4, out, 200), 8, 10, 0, 0);
+    merge(__LINE__, packed_refs_merge(1, BYTES(OLD), BYTES(DELETE_C "\0\15refs/s.lock/a"), index, 4, out, 200), 8, 10, 0, 0);
     merge(__LINE__, packed_refs_merge(1, BYTES(OLD), BYTES(DELETE_C UPDATE_B), index, 1, out, 200), 10, 0, 0, 0);
     for (i = 0; i < 4; i++)
         SAME(index[i], 7);
@@ -306,6 +310,7 @@ static void test_loose(void)
     loose(__LINE__, packed_refs_loose(1, BYTES("ref:  refs/s/a\n")), 0, 2, 6, 8);
     loose(__LINE__, packed_refs_loose(1, BYTES(ONES "1\n")), 15, 0, 0, 0);
     loose(__LINE__, packed_refs_loose(1, BYTES("ref: refs\n")), 16, 0, 0, 0);
+    loose(__LINE__, packed_refs_loose(1, BYTES("ref: refs/s.lock/a\n")), 16, 0, 0, 0);
     loose(__LINE__, packed_refs_loose(3, BYTES(ONES)), 1, 0, 0, 0);
     loose(__LINE__, packed_refs_loose(1, LARGE), 17, 0, 0, 0);
 }

@@ -1,6 +1,6 @@
--- Laws is for the crates above; the others serve the proofs of this crate alone.
+-- Laws is for the crates above, and ByLetters is a theorem for the reader; the others serve the proofs of this crate alone.
 mod Bools
-mod ByLetters
+pub mod ByLetters
 mod Components
 mod Ends
 pub mod Laws

@@ -30,6 +30,7 @@ pub fn is_valid_using(t: &[u8; 256], s: &[u8]) -> bool
         if !may_follow(t, before, b) {
             return false;
         }
+        // A slash ends a component, and so does the end of the name.
         if (b == b'/') && lock_before(s, i) {
             return false;
         }
@@ -51,7 +52,7 @@ fn may_follow(t: &[u8; 256], before: u8, b: u8) -> bool
     if class::is_forbidden(t, b) {
         return false;
     }
-    // Letters and digits, which most bytes are, stand behind the slash (47) and the dot (46).
+    // Letters and digits are greater than the slash (47) and the dot (46): of most bytes only `@{` is left to ask.
     if b'/' < b {
         return (before != b'@') | (b != b'{');
     }
