@@ -5,11 +5,11 @@ use mathlib.Core.List.{List}
 use Prim.Native.Nat.{ℕ}
 use native.Mathlib.Numerals.{add-one}
 use native.Mathlib.Omega.{arith}
-use borrow.Author.Tests.{le-leb, not-true}
+use borrow.Author.Tests.{le-leb}
 use lib.ListN.{take, drop}
 use Rattle.class.specs.Class.{paper}
 use Rattle.compare.specs.Prefix.{begins}
-use Rattle.name.specs.Name.{noComponentEndsWithLock, validName}
+use Rattle.name.specs.Name.{validName}
 use Rattle.name.proofs.Laws.{rules}
 use Rattle.decode.specs.declared.reference.Record.{Record}
 use Rattle.decode.specs.declared.reference.Reading.the-variants.{Good}

@@ -1,6 +1,6 @@
 -- The rules on components by the letters of the whole name hold. Assumes nothing.
 use mathlib.Core.Path.{_≡_, refl}
-use mathlib.Core.Bool.{Bool, true, false, not, _&&_, _||_, and-true, and-false, and-assoc, and-comm}
+use mathlib.Core.Bool.{Bool, true, false, not, _&&_, _||_, and-assoc, and-comm}
 use mathlib.Core.List.{List, [], _∷_, _++_}
 use Prim.Native.Nat.{ℕ}
 use borrow.Author.Tests.{eqb-true, not-true}
@@ -8,7 +8,7 @@ use lib.Dec.{eqb}
 use Rattle.parse.specs.Choice.{if}
 use Rattle.compare.specs.Prefix.{begins, same}
 use Rattle.name.specs.Words.{contains, ends, all}
-use Rattle.name.specs.Name.{dotLock, noComponentEndsWithLock}
+use Rattle.name.specs.Name.{dotLock}
 use Rattle.name.specs.ByLetters.{dotLockSlash, ByLetters}
 use Rattle.name.proofs.Bools.{and-left, and-right, and-left-comm, and-or, not-or}
 use Rattle.name.proofs.Components.{slashless, front, behind, parted, no-dots}

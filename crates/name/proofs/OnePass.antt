@@ -10,7 +10,7 @@ use lib.Seq.{drop-cons}
 use Rattle.class.specs.Class.{Classes}
 use Rattle.compare.specs.Prefix.{begins}
 use Rattle.name.specs.Words.{contains, ends, all}
-use Rattle.name.specs.Name.{dot, dotDot, slash, slashSlash, atBrace, hasSlash, noDotDot, noForbiddenByte, slashesApart, noDotAtTheEnd, noAtBrace, notTheLoneAt, validName}
+use Rattle.name.specs.Name.{dot, dotDot, slash, slashSlash, atBrace, validName}
 use Rattle.name.proofs.Bools.{and-left-comm, not-or}
 use Rattle.name.proofs.Components.{locked, no-dots, no-locks}
 use Rattle.name.proofs.Laws.{lone-at, not-empty}

@@ -76,6 +76,7 @@ loop-again c =
 lock-before-requires-2 : tie.Need-lock-before-requires-2 Inv-loop μ-loop
 lock-before-requires-2 c κs = search needs
 
+-- the end: `over` is what `pass-end` and `locked-end` ask
 returns-3 : tie.Need-returns-3 Inv-loop μ-loop
 returns-3 c =
     let over = c .before .loop-test .left in
