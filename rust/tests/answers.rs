@@ -71,6 +71,36 @@ fn what_cannot_be_read_is_never_absent() {
     }
 }
 
+/// A name of which a part ends with `.lock`, in each place where a name can stand; and names that only nearly are so.
+#[test]
+fn lock_names() {
+    let night = file(&[format!("{} refs/s/a\n", id('1'))]);
+    let checked = Table::check(KIND, &night).unwrap();
+    for (name, is_valid) in [
+        ("refs/e3.lock/a", false),
+        ("refs.lock/e3/a", false),
+        ("refs/e3/a.lock", false),
+        ("refs/.lock/a", false),
+        ("refs/e3.lockb/a", true),
+        ("refs/e3.lock.b/a", true),
+        ("refs/e3.loc/k", true),
+    ] {
+        let record = file(&[format!("{} {name}\n", id('1'))]);
+        let delete = [&[0, name.len() as u8], name.as_bytes()].concat();
+        let target = format!("ref: {name}\n");
+        let said = [
+            check_name(name).err(),
+            checked.find(name).err(),
+            ask(KIND, &night, name).err(),
+            Table::check(KIND, &record).err(),
+            merge(&night, &Edits::from_bytes(KIND, delete)).err(),
+            loose(KIND, target.as_bytes()).err(),
+        ];
+        let numbers = if is_valid { [0; 6] } else { [3, 3, 3, 4, 8, 16] };
+        assert_eq!(said.map(|error| error.map_or(0, |error| error.number())), numbers, "{name}");
+    }
+}
+
 #[test]
 fn glances() {
     let bytes = file(&[format!("{} refs/s/a\n", id('1')), format!("{} refs/s/b\n", id('?'))]);
