@@ -113,7 +113,7 @@ def main():
         asked = chosen(rnd, some, n_short, theirs)
         group(f"{what}, gix-ref 0.67.1", asked + chosen(rnd, list(itertools.islice(make(inputs.Make(rnd)), 6000)), n_random, theirs), "the Rust")
     group("names and edits around the limits, gix-ref 0.67.1", [asked_of(q, a) for q, a in theirs(list(long_ones()))], "the Rust")
-    group("lock names in each place, gix-ref 0.67.1", [asked_of(q, a) for q, a in theirs(list(in_each_place(git_names.LOCKS[:20])))], "the Rust")
+    group("lock names in each place, gix-ref 0.67.1", [asked_of(q, a) for q, a in theirs(list(in_each_place(git_names.LOCKS_IN_EACH_PLACE)))], "the Rust")
     rnd = random.Random("vectors lists")
     of_model = lambda questions: [(q, model.merge(*q[1:])) for q in questions]
     asked = chosen(rnd, list(itertools.islice(inputs.lists(inputs.Make(rnd)), 6000)), 300, of_model)

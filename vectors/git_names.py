@@ -1,6 +1,7 @@
 """Names of references with Git's own answers, `git check-ref-format NAME`, for vectors/answers.py. The same Git gives the same answers each time."""
 import itertools
 import subprocess
+from git_judge import alone
 
 # The cases of Git's t/t1402-check-ref-format.sh that ask with no option.
 T1402 = [
@@ -22,11 +23,16 @@ PLACES = [
     b"a/a%sa",
 ]
 
-# Names around `.lock` at the end of a component: in the first, an inner and the last one, the word alone, longer by a letter, cut by a slash; and with
-# other components that keep or break another rule.
-LOCKS = [
+# Names around `.lock` at the end of a component: in the first, an inner and the last one, the word alone, longer by a letter, cut by a slash. These are also
+# asked in each place where a name can stand.
+LOCKS_IN_EACH_PLACE = [
     b"a.lock/b", b"a/b.lock/c", b"a.lock.b/c", b"a.lockb/c", b"a.loc/k", b"a/.lock", b"a/x.lock", b".lock/b", b"a/.lock/b", b".lock/.lock", b"a/b/.lock",
-    b"a/lock", b"a/.loc/k", b"a./lock", b"a.l/ock", b"a.lo/ck", b"a/b./lock", b"a/b.l/ock", b"a/b.lo/ck", b"a/b.loc/k", b"a/b/.lock/c", b"a/b.lock/c.lock",
+    b"a/lock", b"a/.loc/k", b"a./lock", b"a.l/ock", b"a.lo/ck", b"a/b./lock", b"a/b.l/ock", b"a/b.lo/ck", b"a/b.loc/k",
+]
+
+# More of them, and with other components that keep or break another rule.
+LOCKS = [
+    b"a/b/.lock/c", b"a/b.lock/c.lock",
     b"a.lock/b.lock/c.lock", b"a/lock/b", b"alock/b", b"a/block/c", b"a/b.LOCK/c", b"a/b.lock-/c", b"a/b.lock.lock/c", b"a/b.lockk/c", b"a/b.llock/c",
     b"a/b.loock/c", b"a/bxlock/c", b"a/b.lock", b"refs/sent/ward4/o118.lock/e3", b"refs/sent/ward4/e3.lock", b"refs/sent/e3.lock/ward4/o118",
     b"x.lock/y", b"x.lock/y.lock", b"x.lock/y.lock/z", b"w/x.lock/y.lock/z", b"x.lock//y", b"x.lock/.y", b"x.lock/y.", b"x.lock/y..z",
@@ -94,7 +100,7 @@ def groups():
     yield "every byte as the first of a component", filled([b"refs/%sa"], each)
     yield "every byte as the last of a name", filled([b"refs/a%s"], each)
     yield "words of the rules, and near ones, at each place", filled(PLACES, WORDS)
-    yield "lock names", LOCKS
+    yield "lock names", LOCKS_IN_EACH_PLACE + LOCKS
     yield "one component, and names as repositories have them", COMMON
     yield "line ends and blanks", filled(BLANK_PLACES, BLANKS)
     yield "UTF-8, and bytes that are none", UTF8
@@ -102,17 +108,9 @@ def groups():
     yield "names with a NUL, which no program's argument can hold", NUL
 
 
-def accepts(name):
-    """Git's answer. Another exit than 0 or 1 is none: a name that begins with `-` would be taken for an option."""
-    code = subprocess.run([b"git", b"check-ref-format", name], stderr=subprocess.DEVNULL).returncode
-    if code not in (0, 1):
-        raise SystemExit("git check-ref-format gave %d for %r" % (code, name))
-    return code == 0
-
-
 def number(name):
     """What the library shall say: Git's answer, and for a NUL its page's."""
-    return 0 if b"\0" not in name and accepts(name) else 3
+    return 0 if b"\0" not in name and alone(name) else 3
 
 
 def answered():

@@ -138,7 +138,9 @@ numbers! {
         4 BadRecord Record: "a record can't be read",
             "Do not send.",
             "Copy the file, then restore the line at that place, its name and its id, from the chart or from another copy. If it is \
-             deleted, or a whole older file is put in its place, names that are charted become absent and their messages are sent again.";
+             deleted, or a whole older file is put in its place, names that are charted become absent and their messages are sent again. \
+             A line that is as it was written has a name that breaks a rule, as one with a part that ends with .lock: mend it there and in \
+             the sender.";
         6 Unsorted Record: "a name is not greater than the one before it",
             "Do not send.",
             "Two files were mixed, or a line was moved. Copy the file, then put each record, with its ^ line, where its name belongs; of \

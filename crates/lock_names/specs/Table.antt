@@ -19,7 +19,7 @@ pub record Row : Type 0 where
   pub merge : ℕ
   pub loose : ℕ
 
--- the name in a file of one record, 1*, and looked up there; in a list of one update of it, to 20 bytes, with no old file; behind `ref: `
+-- the name in a file of one record, with an id of forty digits 1, and looked up there; in a list of one update of it, to 20 bytes, with no old file; behind `ref: `
 abbrev pub computed : List ℕ → Row
 computed name =
     let file = replicate 40 49 ++ 32 ∷ (name ++ 10 ∷ []) in

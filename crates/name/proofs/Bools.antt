@@ -13,10 +13,6 @@ and-left-comm true b c = refl
 and-left-comm false true c = refl
 and-left-comm false false c = refl
 
-pub and-or : (a b c : Bool) → (a && (b || c)) ≡ ((a && b) || (a && c))
-and-or true b c = refl
-and-or false b c = refl
-
 pub not-or : (a b : Bool) → not (a || b) ≡ (not a && not b)
 not-or true b = refl
 not-or false b = refl

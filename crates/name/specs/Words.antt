@@ -14,7 +14,7 @@ abbrev pub ends : List ℕ → List ℕ → Bool
 ends w [] = same w []
 ends w (b ∷ s) = same w (b ∷ s) || ends w s
 
--- every one of them passes the test
+-- all that stands in the list passes the test
 abbrev pub all {ℓ} : {A : Type ℓ} → (A → Bool) → List A → Bool
 all p [] = true
 all p (b ∷ s) = p b && all p s

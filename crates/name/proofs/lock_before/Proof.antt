@@ -25,7 +25,7 @@ add-if3 c = search needs
 shared-slice-read-if3 : tie.Need-shared-slice-read-if3
 shared-slice-read-if3 c = search needs
 
--- the last letter is another, or it is this one
+-- the last letter is another
 returns-3 : tie.Need-returns-3
 returns-3 c =
     let tests = c .before .before in
@@ -54,6 +54,7 @@ add-result-3 c = search needs
 shared-slice-read-result-4 : tie.Need-shared-slice-read-result-4
 shared-slice-read-result-4 c = search needs
 
+-- it is this one
 returns-4 : tie.Need-returns-4
 returns-4 c =
     let last = c .before .before .before .before in

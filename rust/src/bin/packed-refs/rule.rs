@@ -1,6 +1,6 @@
 //! Which name rule a name breaks, in words.
 
-/// The first rule of Git's page git-check-ref-format, with at least one slash, that a name breaks. The library has refused the name; this says why, and
+/// A rule of Git's page git-check-ref-format, with at least one slash, that a name breaks. The library has refused the name; this says why, and
 /// decides nothing.
 pub fn broken(name: &[u8]) -> &'static str {
     let has = |part: &[u8]| name.windows(part.len()).any(|window| window == part);
