@@ -10,10 +10,11 @@ use Rattle.name.specs.Name.{validName}
 use Rattle.header.specs.Header.{headerOf, headed}
 use Rattle.decode.specs.Record.{decoded}
 use Rattle.checks.specs.declared.Verdict.{Verdict}
+use Rattle.checks.specs.declared.Verdict.the-variants.{Clean}
 use Rattle.checks.specs.declared.Verdict.the-variants as verdict
 use Rattle.checks.specs.declared.Refusal.the-variants.{BadHeader}
 use Rattle.iter.specs.Items.{Item, items, nameOf}
-use Rattle.checks.specs.Check.{judgeBody, refusalNumber}
+use Rattle.checks.specs.Check.{judgeBody, refusalNumber, verdictNumber}
 use Rattle.ask.specs.declared.Sought.{Sought}
 use Rattle.ask.specs.declared.Sought.the-variants.{At, Nowhere}
 use Rattle.ask.specs.declared.Told.{Told}
@@ -32,18 +33,16 @@ firstNamed n name place (i ∷ l) =
 unfoldable pub soughtFrom : Classes → ℕ → List ℕ → ℕ → List ℕ → Sought
 soughtFrom byte n file place name = firstNamed n name place (items byte n (drop place file))
 
--- ---- behind a header that can be read: charted if a record has the name; else absent if the file passes the check; else what the check gives
+-- ---- behind a header that can be read: charted if a record has the name, and "beside 0 it tells what the check gives of the whole file"; else
+-- absent if the file passes the check; else what the check gives
 
-abbrev pub orVerdict : Sought → Told → Told
-orVerdict (At place r) v = Charted place r
-orVerdict Nowhere v = v
-
-abbrev pub unlessFound : Verdict → Told
-unlessFound (verdict.Clean count) = Absent
-unlessFound (verdict.Refused why) = Refused why
+abbrev pub toldOf : Sought → Verdict → Told
+toldOf (At place r) v = Charted place r v
+toldOf Nowhere (Clean count) = Absent
+toldOf Nowhere (verdict.Refused why) = Refused why
 
 unfoldable pub askBody : Classes → ℕ → List ℕ → ℕ → List ℕ → Told
-askBody byte n file body name = orVerdict (soughtFrom byte n file body name) (unlessFound (judgeBody byte n file body))
+askBody byte n file body name = toldOf (soughtFrom byte n file body name) (judgeBody byte n file body)
 
 unfoldable pub askOf : Classes → ℕ → List ℕ → List ℕ → Told
 askOf byte n file name =
@@ -57,9 +56,25 @@ askAnswer kind file name =
 
 -- the paper's number for each case
 abbrev pub askNumber : AskAnswer → ℕ
-askNumber (Done (Charted place r)) = 0
+askNumber (Done (Charted place r v)) = 0
 askNumber (Done Absent) = 5
 askNumber (Done BadName) = 3
 askNumber (Done (Refused why)) = refusalNumber why
 askNumber UnknownKind = 1
 askNumber TooLarge = 17
+
+-- the number that the check gives of the whole file: "`fault`, 0 where it passes". It stands beside 0 alone
+abbrev pub askFault : AskAnswer → ℕ
+askFault (Done (Charted place r v)) = verdictNumber v
+askFault (Done Absent) = 0
+askFault (Done BadName) = 0
+askFault (Done (Refused why)) = 0
+askFault UnknownKind = 0
+askFault TooLarge = 0
+
+-- ---- what functions promise each other
+
+-- what was found before, or else what comes later
+abbrev pub orElse : Sought → Sought → Sought
+orElse (At place r) later = At place r
+orElse Nowhere later = later

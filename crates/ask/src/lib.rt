@@ -1,17 +1,26 @@
 // The lookup that can be trusted on any bytes: absent is said only of a file that passes the check.
 ghost use mathlib.Core.Path.{_≡_};
 ghost use Rattle.class.specs.Class.{classesOf};
-ghost use Rattle.ask.specs.Ask.{askOf, askAnswer, askBody, soughtFrom, orVerdict};
+ghost use Rattle.parse.specs.Choice.{if};
+ghost use Rattle.compare.specs.Prefix.{same};
+ghost use Rattle.ask.specs.declared.Sought.the-variants.{At, Nowhere};
+ghost use Rattle.ask.specs.Ask.{askOf, askAnswer, askBody, soughtFrom, toldOf, orElse};
 use checks::Refusal;
 use checks::Turn;
+use checks::Verdict;
 use decode::reference::Reading;
 use decode::reference::Record;
 use header::Opened;
 use parse::limit::Admission;
 
 pub enum Told {
-    // A record of the file has the name: where it starts.
-    Charted { place: usize, found: Record },
+    // A record of the file has the name: where it starts, and what the check says of the whole file. Where the file does not pass, the record may
+    // itself be what the damage made.
+    Charted {
+        place: usize,
+        found: Record,
+        verdict: Verdict,
+    },
     // The whole file passes the check, and no record has the name.
     Absent,
     // The wanted name breaks the name rules.
@@ -58,30 +67,63 @@ pub fn ask_using(t: &[u8; 256], n: usize, file: &[u8], name: &[u8]) -> Told
     }
 }
 
-// One pass from a place on that checks the records and looks for the name at once. A record of the name ends it. From the first fault on the name
-// alone is looked for.
+// One pass from a place on that checks the records and looks for the name at once. From a record of the name on it checks alone, from the first fault
+// on it looks for the name alone; with both it ends.
 pub(crate) fn ask_body(t: &[u8; 256], n: usize, file: &[u8], body: usize, name: &[u8]) -> Told
     ensures { λ r. ⌜ r ≡ askBody (classesOf (now (t .entry))) n (now (file .entry)) body (now (name .entry)) ⌝ }
 {
     let mut place = body;
+    let mut count = 0;
     let mut last = &file[0..0];
+    let mut sought = Sought::Nowhere;
     loop {
         match checks::take_turn(t, n, file, place, last) {
             Turn::End => {
-                return Told::Absent;
+                return tell(sought, Verdict::Clean(count));
             }
             Turn::Refused(why) => {
-                let sought = first_named(t, n, file, place, name);
-                return verdict_unless(sought, Told::Refused(why));
+                let first = or_later(sought, t, n, file, place, name);
+                return tell(first, Verdict::Refused(why));
             }
             Turn::On(found) => {
                 last = decode::reference::name_of(&file[place..], n, found);
-                if compare::prefix::is_same(last, name) {
-                    return Told::Charted { place, found };
-                }
+                sought = or_this(sought, name, last, place, found);
+                count += 1;
                 place += found.size;
             }
         }
+    }
+}
+
+// What was found before, or else the record at a place, if its name is the wanted one.
+fn or_this(sought: Sought, name: &[u8], its: &[u8], place: usize, found: Record) -> Sought
+    ensures { λ r. ⌜ r ≡ orElse sought (if (same (now (name .entry)) (now (its .entry))) (At place found) Nowhere) ⌝ }
+{
+    match sought {
+        Sought::At { place: _, found: _ } => sought,
+        Sought::Nowhere => {
+            if compare::prefix::is_same(its, name) {
+                return Sought::At { place, found };
+            }
+            Sought::Nowhere
+        }
+    }
+}
+
+// What was found before, or else the first record of the name from a place on.
+fn or_later(
+    sought: Sought,
+    t: &[u8; 256],
+    n: usize,
+    file: &[u8],
+    from: usize,
+    name: &[u8],
+) -> Sought
+    ensures { λ r. ⌜ r ≡ orElse sought (soughtFrom (classesOf (now (t .entry))) n (now (file .entry)) from (now (name .entry))) ⌝ }
+{
+    match sought {
+        Sought::At { place: _, found: _ } => sought,
+        Sought::Nowhere => first_named(t, n, file, from, name),
     }
 }
 
@@ -107,12 +149,19 @@ pub(crate) fn first_named(t: &[u8; 256], n: usize, file: &[u8], from: usize, nam
     Sought::Nowhere
 }
 
-// A record that was found, or else the verdict on the file.
-fn verdict_unless(sought: Sought, verdict: Told) -> Told
-    ensures { λ r. ⌜ r ≡ orVerdict sought verdict ⌝ }
+// A record that was found, with the verdict on the file; or else the verdict.
+fn tell(sought: Sought, verdict: Verdict) -> Told
+    ensures { λ r. ⌜ r ≡ toldOf sought verdict ⌝ }
 {
     match sought {
-        Sought::At { place, found } => Told::Charted { place, found },
-        Sought::Nowhere => verdict,
+        Sought::At { place, found } => Told::Charted {
+            place,
+            found,
+            verdict,
+        },
+        Sought::Nowhere => match verdict {
+            Verdict::Clean(_) => Told::Absent,
+            Verdict::Refused(why) => Told::Refused(why),
+        },
     }
 }

@@ -2,17 +2,22 @@
 use mathlib.Core.Path.{_≡_, refl, _∙_}
 use mathlib.Core.List.{List, []}
 use Prim.Native.Nat.{ℕ}
+use native.Mathlib.Omega.{arith}
 use lib.ListN.{drop}
 use Rattle.class.specs.Class.{Classes}
 use Rattle.header.specs.declared.Header.{Header}
 use Rattle.header.specs.declared.Opened.{Opened}
 use Rattle.header.specs.declared.Opened.the-variants as opened
 use Rattle.header.specs.Header.{headerOf}
+use Rattle.decode.specs.declared.reference.Fault.{Fault}
+use Rattle.decode.specs.declared.reference.Fault.the-variants.{Id, Space, LineEnd, Name, Peeled}
+use Rattle.decode.specs.Record.{faultNumber}
 use Rattle.checks.specs.declared.Verdict.{Verdict}
 use Rattle.checks.specs.declared.Verdict.the-variants.{Clean, Refused}
+use Rattle.checks.specs.declared.Refusal.{Refusal}
 use Rattle.checks.specs.declared.Refusal.the-variants.{BadHeader, BadRecord, Unsorted}
 use Rattle.iter.specs.Items.{items}
-use Rattle.checks.specs.Check.{judge, judgeBody, checkOf}
+use Rattle.checks.specs.Check.{judge, judgeBody, checkOf, refusalNumber, verdictNumber}
 use Rattle.checks.specs.CheckMeans.{Means, CheckMeans}
 use Rattle.checks.proofs.Passes.{judges, judges-error, judges-unsorted, Says, says}
 
@@ -46,3 +51,21 @@ module _ (byte : Classes) (n : ℕ) (file : List ℕ) where
 
   pub check-means : CheckMeans byte n file
   check-means v = (λ e. rw e at means, only-then v)
+
+-- ---- 0 is given of a file that passes, and of no other
+
+some-fault : (f : Fault) → faultNumber f ≡ 0 → ⊥
+some-fault Id e = omega arith
+some-fault Space e = omega arith
+some-fault LineEnd e = omega arith
+some-fault Name e = omega arith
+some-fault Peeled e = omega arith
+
+some-refusal : (why : Refusal) → refusalNumber why ≡ 0 → ⊥
+some-refusal (BadHeader text) e = omega arith
+some-refusal (BadRecord place f) e = some-fault f e
+some-refusal (Unsorted place) e = omega arith
+
+pub zero-clean : (v : Verdict) → verdictNumber v ≡ 0 → (count : ℕ) × (v ≡ Clean count)
+zero-clean (Clean count) e = (count, refl)
+zero-clean (Refused why) e = absurd (some-refusal why e)

@@ -21,7 +21,7 @@ use Rattle.checks.specs.declared.Turn.{Turn}
 use Rattle.checks.specs.declared.Turn.the-variants as turn
 use Rattle.iter.specs.Items.{Item, items, nameIn, nameOf}
 
--- "iterate; the first item that is an error (4) or whose name isn't greater, byte by byte, than the one before (6) is answered
+-- "iterate; the first item that is an error (41 to 45 by its part) or whose name isn't greater, byte by byte, than the one before (6) is answered
 -- with its place; else 0 and the record count". The items begin at a place. So many records (count) stood
 -- before them, and the last of those has the name last. Before the first record last is empty: every name is greater than that
 abbrev pub judge : ℕ → ℕ → ℕ → List ℕ → List Item → Verdict
@@ -49,10 +49,13 @@ refusalNumber (BadHeader k) = 2
 refusalNumber (BadRecord place f) = faultNumber f
 refusalNumber (Unsorted place) = 6
 
+abbrev pub verdictNumber : Verdict → ℕ
+verdictNumber (Clean count) = 0
+verdictNumber (Refused why) = refusalNumber why
+
 -- the paper's number for each case
 abbrev pub checkNumber : CheckAnswer → ℕ
-checkNumber (Done (Clean count)) = 0
-checkNumber (Done (Refused why)) = refusalNumber why
+checkNumber (Done v) = verdictNumber v
 checkNumber UnknownKind = 1
 checkNumber TooLarge = 17
 

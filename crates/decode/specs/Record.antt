@@ -44,10 +44,10 @@ abbrev pub decoded {ℓ} : {A : Type ℓ} → Reading → (Record → A) → (Fa
 decoded (Good r) f g = f r
 decoded (Bad why) f g = g why
 
--- the paper's number for each part that can't be read
+-- "Replace 4 by five: 41 first id, 42 no space, 43 line not ended properly, 44 name, 45 anything in the `^` line. The first in that order counts"
 abbrev pub faultNumber : Fault → ℕ
-faultNumber Id = 4
-faultNumber Space = 4
-faultNumber LineEnd = 4
-faultNumber Name = 4
-faultNumber Peeled = 4
+faultNumber Id = 41
+faultNumber Space = 42
+faultNumber LineEnd = 43
+faultNumber Name = 44
+faultNumber Peeled = 45

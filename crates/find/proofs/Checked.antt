@@ -7,7 +7,7 @@ use Rattle.class.specs.Class.{paper}
 use Rattle.iter.specs.Items.{Item, items}
 use Rattle.checks.specs.Passes.{isGood, allGood, ascending, Passes}
 use Rattle.iter.specs.Stands.{Stands}
-use Rattle.find.proofs.Ascending.{Apart, apart}
+use Rattle.checks.proofs.Ascending.{Apart, apart}
 use Rattle.find.proofs.ItemAt.{stands-good}
 
 -- with ids of n digits, and there are some

@@ -17,7 +17,7 @@ use Rattle.iter.specs.Stands.{Stands}
 use Rattle.search.specs.declared.Halved.{Halved}
 use Rattle.search.specs.Search.{orderAt, placed, searchOf}
 use Rattle.find.specs.PrefixStart.{placeOf}
-use Rattle.find.proofs.Ascending.{Apart, same, first, second}
+use Rattle.checks.proofs.Ascending.{Apart, same, first, second}
 use Rattle.find.proofs.Checked.{Checked, two-records}
 use Rattle.find.proofs.Outcome.{Outcome, found, parted}
 use Rattle.find.proofs.RecordStarts.{end-start}

@@ -6,10 +6,7 @@ use mathlib.Core.Logic.{_⊎_, inl, inr}
 use Prim.Native.Nat.{ℕ, _<_}
 use native.Mathlib.Omega.{arith}
 use lib.ListN.{drop}
-use Rattle.compare.specs.declared.order.Order.the-variants.{Less}
 use Rattle.class.specs.Class.{paper}
-use Rattle.compare.specs.Order.{orderOf}
-use Rattle.compare.proofs.Orders.{order-refl}
 use Rattle.name.specs.Name.{validName}
 use Rattle.decode.specs.declared.reference.Record.{Record}
 use Rattle.decode.specs.declared.reference.Reading.{Reading}
@@ -24,8 +21,8 @@ use Rattle.find.specs.declared.lookup.Lookup.the-variants.{Charted, Abse
 use Rattle.search.specs.Search.{searchOf}
 use Rattle.find.specs.Lookup.{lookupOf}
 use Rattle.find.specs.Present.{FoundExactly}
-use Rattle.find.proofs.Ascending.{Apart, same, first, second}
-use Rattle.find.proofs.Checked.{Checked, checked, good-at, two-records}
+use Rattle.checks.proofs.Ascending.{one-named}
+use Rattle.find.proofs.Checked.{Checked, checked, good-at}
 use Rattle.find.proofs.Searched.{Searched, hit, miss, searched}
 use Rattle.find.proofs.Sides.{side}
 
@@ -35,20 +32,9 @@ good-record (Bad f) h = absurd (let z : _≡_ {A = ℕ} 0 1 = cc in omega arith)
 
 -- ---- at most one record has a name
 
-not-less : (v w name : List ℕ) → v ≡ name → w ≡ name → orderOf v w ≡ Less → ⊥
-not-less v w name p q e =
-    let z : orderOf v w ≡ orderOf name name = ap (λ (x : List ℕ). orderOf x w) p ∙ ap (orderOf name) q in
-    let x : _≡_ {A = ℕ} 0 1 = cc (order-refl name) in
-    omega arith
-
 one-place : {n : ℕ} {s name : List ℕ} {a b : ℕ} {i j : Item} → Checked n s → Stands paper n s a i → nameOf n i ≡ name
     → Stands paper n s b j → nameOf n j ≡ name → a ≡ b
-one-place {n} {s} {name} {a} {b} {i} {j} c x p y q = go (two-records c x y)
-  where
-    go : Apart n a i b j → a ≡ b
-    go (same e h) = e
-    go (first h e) = absurd (not-less (nameOf n i) (nameOf n j) name p q e)
-    go (second h e) = absurd (not-less (nameOf n j) (nameOf n i) name q p e)
+one-place c x p y q = one-named _ (c .up) x p y q .0
 
 -- ---- the lookup, by what the search comes to
 

@@ -1,4 +1,3 @@
-pub mod Ascending
 pub mod Checked
 pub mod Cut
 pub mod Found

@@ -16,7 +16,7 @@ use Rattle.iter.specs.Stands.{Stands}
 use Rattle.iter.proofs.Each.{each}
 use Rattle.search.specs.declared.Probed.{Probed}
 use Rattle.search.specs.Search.{probedAt, orderAt, failureAt}
-use Rattle.find.proofs.Ascending.{Apart, same, first, second}
+use Rattle.checks.proofs.Ascending.{Apart, same, first, second}
 use Rattle.find.proofs.Checked.{Checked, good-at, two-records}
 use Rattle.find.proofs.GoodShape.{good-probed}
 use Rattle.find.proofs.ItemAt.{lies}

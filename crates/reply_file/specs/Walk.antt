@@ -2,6 +2,7 @@
 use mathlib.Core.Path.{_≡_}
 use Prim.Native.Nat.{ℕ}
 use Rattle.decode.specs.declared.reference.Record.{Record}
+use Rattle.decode.specs.Record.{faultNumber}
 use Rattle.start.specs.declared.Start.the-variants.{At, BadHeader}
 use Rattle.start.specs.declared.StartAnswer.{StartAnswer}
 use Rattle.start.specs.declared.StartAnswer.the-variants.{Done, UnknownKind, TooLarge}
@@ -32,8 +33,8 @@ startReply a = startBeside (startNumber a) a
 
 -- ---- the step from a place
 
-abbrev pub stepGives : ℕ → ℕ → ℕ → ℕ → ℕ → Parts → ℕ → ℕ → StepReply
-stepGives number what start next nextItem parts error textLen =
+abbrev pub stepGives : ℕ → ℕ → ℕ → ℕ → ℕ → Parts → ℕ → ℕ → ℕ → StepReply
+stepGives number what start next nextItem parts why error textLen =
     record {
       number = number;
       what = what;
@@ -43,17 +44,18 @@ stepGives number what start next nextItem parts error textLen =
       «name_at» = parts .«name_at»;
       «name_len» = parts .«name_len»;
       «peeled_at» = parts .«peeled_at»;
+      why = why;
       error = error;
       «text_len» = textLen;
     }
 
--- what stands beside a number. What it is: 1 a record, 2 an error, 0 no item
+-- what stands beside a number. What it is: 1 a record, 2 an error, 0 no item; and why it is an error, "41 to 45"
 abbrev pub stepBeside : ℕ → ℕ → ℕ → StepAnswer → StepReply
-stepBeside number kind place (step.Done (End next nextItem)) = stepGives number 0 0 next nextItem noParts 0 0
-stepBeside number kind place (step.Done (Good r next nextItem)) = stepGives number 1 place next nextItem (partsOf kind place r) 0 0
-stepBeside number kind place (step.Done (Error f item text next nextItem)) = stepGives number 2 place next nextItem noParts item text
-stepBeside number kind place step.UnknownKind = stepGives number 0 0 0 0 noParts 0 0
-stepBeside number kind place step.TooLarge = stepGives number 0 0 0 0 noParts 0 0
+stepBeside number kind place (step.Done (End next nextItem)) = stepGives number 0 0 next nextItem noParts 0 0 0
+stepBeside number kind place (step.Done (Good r next nextItem)) = stepGives number 1 place next nextItem (partsOf kind place r) 0 0 0
+stepBeside number kind place (step.Done (Error f item text next nextItem)) = stepGives number 2 place next nextItem noParts (faultNumber f) item text
+stepBeside number kind place step.UnknownKind = stepGives number 0 0 0 0 noParts 0 0 0
+stepBeside number kind place step.TooLarge = stepGives number 0 0 0 0 noParts 0 0 0
 
 abbrev pub stepReply : ℕ → ℕ → StepAnswer → StepReply
 stepReply kind place a = stepBeside (stepNumber a) kind place a

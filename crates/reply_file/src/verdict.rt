@@ -8,7 +8,7 @@ use checks::Verdict;
 #[repr(C)]
 pub struct CheckReply {
     pub number: u32,
-    // Where the item of number 4 or 6 starts.
+    // Where the item of numbers 41 to 45 and 6 starts.
     pub place: usize,
     // How many records.
     pub count: usize,

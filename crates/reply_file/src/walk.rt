@@ -65,6 +65,8 @@ pub struct StepReply {
     pub name_at: usize,
     pub name_len: usize,
     pub peeled_at: usize,
+    // Of an error: 41 to 45, by the first of its parts that can't be read.
+    pub why: u32,
     // An error's item number, and the length of its text.
     pub error: u64,
     pub text_len: usize,
@@ -99,25 +101,28 @@ fn step_told(kind: u32, place: usize, answer: StepAnswer) -> StepReply
     let none = tell::no_parts();
     match answer {
         StepAnswer::Done(said) => match said {
-            Step::End { next, next_item } => step_gives(0, 0, 0, next, next_item, none, 0, 0),
+            Step::End { next, next_item } => step_gives(0, 0, 0, next, next_item, none, 0, 0, 0),
             Step::Good {
                 found,
                 next,
                 next_item,
             } => {
                 let parts = tell::parts_at(kind, place, found);
-                step_gives(0, 1, place, next, next_item, parts, 0, 0)
+                step_gives(0, 1, place, next, next_item, parts, 0, 0, 0)
             }
             Step::Error {
-                fault: _,
+                fault,
                 item,
                 text,
                 next,
                 next_item,
-            } => step_gives(0, 2, place, next, next_item, none, item, text),
+            } => {
+                let why = tell::fault_number(fault);
+                step_gives(0, 2, place, next, next_item, none, why, item, text)
+            }
         },
-        StepAnswer::UnknownKind => step_gives(1, 0, 0, 0, 0, none, 0, 0),
-        StepAnswer::TooLarge => step_gives(17, 0, 0, 0, 0, none, 0, 0),
+        StepAnswer::UnknownKind => step_gives(1, 0, 0, 0, 0, none, 0, 0, 0),
+        StepAnswer::TooLarge => step_gives(17, 0, 0, 0, 0, none, 0, 0, 0),
     }
 }
 
@@ -128,10 +133,11 @@ fn step_gives(
     next: usize,
     next_item: u64,
     parts: Parts,
+    why: u32,
     error: u64,
     text: usize,
 ) -> StepReply
-    ensures { λ r. ⌜ r ≡ stepGives number what start next «next_item» parts error text ⌝ }
+    ensures { λ r. ⌜ r ≡ stepGives number what start next «next_item» parts why error text ⌝ }
 {
     StepReply {
         number,
@@ -142,6 +148,7 @@ fn step_gives(
         name_at: parts.name_at,
         name_len: parts.name_len,
         peeled_at: parts.peeled_at,
+        why,
         error,
         text_len: text,
     }

@@ -21,6 +21,7 @@ use Rattle.search.specs.declared.Halved.{Halved}
 use Rattle.search.specs.declared.Halved.the-variants.{Hit, Miss}
 use Rattle.find.specs.declared.lookup.Lookup.the-variants as lookup
 use Rattle.find.specs.declared.lookup.LookupAnswer.the-variants as found
+use Rattle.checks.specs.declared.Verdict.{Verdict}
 use Rattle.ask.specs.declared.Told.the-variants as told
 use Rattle.ask.specs.declared.AskAnswer.the-variants as asked
 use Rattle.search.specs.Search.{searchOf}
@@ -73,13 +74,13 @@ stands-lies n s place it r h good =
     let at = each n s place it h in
     (omega (arith, at .inside), sym (ap (λ (i : Item). i .what) (at .read)) ∙ good)
 
-pub ask-near : (kind : ℕ) (file name : List ℕ) {place : ℕ} {r : Record}
-    → askAnswer kind file name ≡ asked.Done (told.Charted place r) → Near place r
+pub ask-near : (kind : ℕ) (file name : List ℕ) {place : ℕ} {r : Record} {v : Verdict}
+    → askAnswer kind file name ≡ asked.Done (told.Charted place r v) → Near place r
 unfolding askAnswer
-ask-near kind file name {place} {r} e =
+ask-near kind file name {place} {r} {v} e =
     let (n, digits, h) = through kind (length file) (length name) (λ n. asked.Done (askOf paper n file name)) e
     (λ q. let z : _≡_ {A = ℕ} 0 1 = cc in omega arith) (λ q. let z : _≡_ {A = ℕ} 0 1 = cc in omega arith) in
-    let (h, inner, opened, here, x) = trusted n file name .charted place r cc in
+    let (h, inner, opened, here, x, verdict) = trusted n file name .charted place r v cc in
     let body = drop (h .body) file in
     let lies = stands-lies n body inner (x .it) r (x .stands) (x .good) in
     let l : length body ≡ length file - h .body = length-drop (h .body) file in

@@ -9,7 +9,7 @@ use tell::Parts;
 #[repr(C)]
 pub struct AskReply {
     pub number: u32,
-    // Where the record starts, or the item of number 4 or 6.
+    // Where the record starts, or the item of numbers 41 to 45 and 6.
     pub place: usize,
     pub name_at: usize,
     pub name_len: usize,
@@ -17,6 +17,8 @@ pub struct AskReply {
     pub peeled_at: usize,
     // The length of number 2's text, which starts at 0.
     pub text_len: usize,
+    // Beside 0 the number that the check gives of the whole file.
+    pub fault: u32,
 }
 
 pub fn ask_reply(kind: u32, file: &[u8], name: &[u8]) -> AskReply
@@ -32,23 +34,28 @@ fn ask_told(kind: u32, answer: AskAnswer) -> AskReply
     let none = tell::no_parts();
     match answer {
         AskAnswer::Done(said) => match said {
-            Told::Charted { place, found } => {
-                ask_gives(0, place, tell::parts_at(kind, place, found), 0)
+            Told::Charted {
+                place,
+                found,
+                verdict,
+            } => {
+                let parts = tell::parts_at(kind, place, found);
+                ask_gives(0, place, parts, 0, tell::verdict_number(verdict))
             }
-            Told::Absent => ask_gives(5, 0, none, 0),
-            Told::BadName => ask_gives(3, 0, none, 0),
+            Told::Absent => ask_gives(5, 0, none, 0, 0),
+            Told::BadName => ask_gives(3, 0, none, 0, 0),
             Told::Refused(why) => {
                 let told = tell::refusal(why);
-                ask_gives(told.number, told.place, none, told.text_len)
+                ask_gives(told.number, told.place, none, told.text_len, 0)
             }
         },
-        AskAnswer::UnknownKind => ask_gives(1, 0, none, 0),
-        AskAnswer::TooLarge => ask_gives(17, 0, none, 0),
+        AskAnswer::UnknownKind => ask_gives(1, 0, none, 0, 0),
+        AskAnswer::TooLarge => ask_gives(17, 0, none, 0, 0),
     }
 }
 
-fn ask_gives(number: u32, place: usize, parts: Parts, text: usize) -> AskReply
-    ensures { λ r. ⌜ r ≡ askGives number place parts text ⌝ }
+fn ask_gives(number: u32, place: usize, parts: Parts, text: usize, fault: u32) -> AskReply
+    ensures { λ r. ⌜ r ≡ askGives number place parts text fault ⌝ }
 {
     AskReply {
         number,
@@ -57,5 +64,6 @@ fn ask_gives(number: u32, place: usize, parts: Parts, text: usize) -> AskReply
         name_len: parts.name_len,
         peeled_at: parts.peeled_at,
         text_len: text,
+        fault,
     }
 }

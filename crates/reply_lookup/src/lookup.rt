@@ -9,7 +9,7 @@ use tell::Parts;
 #[repr(C)]
 pub struct LookupReply {
     pub number: u32,
-    // Where the record starts, which is where its id stands. Beside 4 only where a record was hit, else 0.
+    // Where the record starts that was hit, which is where its id stands: beside 0, 41 and 45.
     pub place: usize,
     pub name_at: usize,
     pub name_len: usize,

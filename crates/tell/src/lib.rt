@@ -2,8 +2,10 @@
 ghost use mathlib.Core.Path.{_≡_};
 ghost use Prim.Native.Nat.{_≤_};
 ghost use Rattle.decode.specs.Record.{faultNumber};
+ghost use Rattle.checks.specs.Check.{verdictNumber};
 ghost use Rattle.tell.specs.Told.{nameAt, peeledAt, noParts, partsTold, refusalTold};
 use checks::Refusal;
+use checks::Verdict;
 use decode::reference::Fault;
 use decode::reference::Record;
 use parse::limit::IdKind;
@@ -85,6 +87,19 @@ pub fn refusal(why: Refusal) -> Numbered
     }
 }
 
+// The number that the check gives.
+pub fn verdict_number(verdict: Verdict) -> u32
+    ensures { λ r. ⌜ r ≡ verdictNumber verdict ⌝ }
+{
+    match verdict {
+        Verdict::Clean(_) => 0,
+        Verdict::Refused(why) => {
+            let told = refusal(why);
+            told.number
+        }
+    }
+}
+
 fn refusal_gives(number: u32, place: usize, text: usize) -> Numbered
     ensures { λ r. ⌜ r ≡ record { number = number; place = place; «text_len» = text } ⌝ }
 {
@@ -100,10 +115,10 @@ pub fn fault_number(fault: Fault) -> u32
     ensures { λ r. ⌜ r ≡ faultNumber fault ⌝ }
 {
     match fault {
-        Fault::Id => 4,
-        Fault::Space => 4,
-        Fault::LineEnd => 4,
-        Fault::Name => 4,
-        Fault::Peeled => 4,
+        Fault::Id => 41,
+        Fault::Space => 42,
+        Fault::LineEnd => 43,
+        Fault::Name => 44,
+        Fault::Peeled => 45,
     }
 }

@@ -1,30 +1,31 @@
--- `ask::ask_body` meets its contract: what the items from the place reached on come to decides the whole.
+-- `ask::ask_body` meets its contract: what was found, and what the items from the place reached on come to, decide the whole.
 use mathlib.Core.Path.{_≡_, refl, sym, ap, _∙_}
 use mathlib.Core.List.{List}
-use Prim.Native.Nat.{ℕ, suc, _-_}
+use Prim.Native.Nat.{ℕ, _-_, _≤_}
+use native.Mathlib.Numerals.{add-one}
 use native.Mathlib.Omega.{arith}
 use lib.ListN.{length}
 use Rattle.class.specs.Class.{classesOf}
-use Rattle.compare.specs.Prefix.{same}
 use Rattle.decode.specs.declared.reference.Record.{Record}
 use Rattle.checks.specs.declared.Turn.{Turn}
 use Rattle.checks.specs.declared.Turn.the-variants.{On}
 use Rattle.checks.specs.Check.{judgeBody}
 use Rattle.ask.specs.declared.Sought.{Sought}
 use Rattle.ask.specs.declared.Told.{Told}
-use Rattle.ask.specs.Ask.{soughtFrom, orVerdict, unlessFound, askBody}
+use Rattle.ask.specs.Ask.{soughtFrom, toldOf, orElse, askBody}
 use Rattle.iter.proofs.ItemRead.{goes-on, named, named-is}
 use Rattle.checks.proofs.CheckTurns.{Spot, Turned, turned, judgedAfter}
-use Rattle.ask.proofs.Seeking.{askFrom, ask-turn, ask-end, ask-found, ask-on}
+use Rattle.ask.proofs.Seeking.{askFrom, ask-turn, ask-end, ask-on}
 use borrow.Author.Needs.{needs}
 use Rattle.ask.proofs.ask_body.Statement.{statement}
 use Rattle.ask.proofs.ask_body.Tie as tie
 
 abbrev Inv-loop : tie.InvT-loop
-Inv-loop t n file body name place₀ last₀ place last = (count : ℕ) × (askFrom (classesOf t) n file name place count last ≡ askBody (classesOf t) n file body name)
+Inv-loop t n file body name place₀ count₀ last₀ sought₀ place count last sought =
+    (count ≤ place) × (askFrom (classesOf t) n file name sought place count last ≡ askBody (classesOf t) n file body name)
 
 abbrev μ-loop : tie.MeasureT-loop
-μ-loop t n file body name place₀ last₀ place last = length file - place
+μ-loop t n file body name place₀ count₀ last₀ sought₀ place count last sought = length file - place
 
 -- ---- what a turn tells, and what the whole then comes to
 
@@ -42,7 +43,10 @@ module _ (k : tie.After-take-turn Inv-loop μ-loop) where
   name = start .args .name .now
 
   abbrev count : ℕ
-  count = k .before .loop .inv .0
+  count = k .before .loop .count
+
+  abbrev sought : Sought
+  sought = k .before .loop .sought
 
   tells : (w : Turn) → k .take-turn .result ≡ w → Turned here w
   tells w = turned here _ w (k .take-turn .ensures)
@@ -50,11 +54,13 @@ module _ (k : tie.After-take-turn Inv-loop μ-loop) where
   abbrev Whole : Told → Type 0
   Whole told = told ≡ askBody (here .byte) (here .n) (here .file) (start .args .body) name
 
-  -- where the check ends, what is sought from the place on decides
-  ended : (w : Turn) → k .take-turn .result ≡ w → (x : Sought) → x ≡ soughtFrom (here .byte) (here .n) (here .file) (here .place) name
-      → Whole (orVerdict x (unlessFound (judgedAfter here count w)))
-  ended w e x sought =
-      ap (λ v. orVerdict v (unlessFound (judgedAfter here count w))) sought ∙ sym (ask-turn here name count w (tells w e)) ∙ k .before .loop .inv .1
+  whole : {told : Told} → askFrom (here .byte) (here .n) (here .file) name sought (here .place) count (here .last) ≡ told → Whole told
+  whole e = sym e ∙ k .before .loop .inv .1
+
+  -- where the check ends at a fault, what was found before or is found from there on decides
+  stopped : (w : Turn) → k .take-turn .result ≡ w → (x : Sought) → x ≡ orElse sought (soughtFrom (here .byte) (here .n) (here .file) (here .place) name)
+      → Whole (toldOf x (judgedAfter here count w))
+  stopped w e x first = ap (λ v. toldOf v (judgedAfter here count w)) first ∙ whole (ask-turn here name sought count w (tells w e))
 
 -- a record: its turn, and its name as it is cut out
 module _ (f : tie.After-found Inv-loop μ-loop) where
@@ -74,13 +80,6 @@ module _ (m : tie.After-name-of Inv-loop μ-loop) where
   name-is : m .name-of .result .now ≡ named (on found .0)
   name-is = named-is (on found .0) (m .name-of .ensures)
 
-module _ (q : tie.After-is-same Inv-loop μ-loop) where
-  abbrev of-record : tie.After-found Inv-loop μ-loop
-  of-record = found (q .before)
-
-  wanted-is : same (name (its of-record)) (named (on of-record .0)) ≡ q .is-same .result
-  wanted-is = ap (same (name (its of-record))) (sym (name-is (q .before))) ∙ sym (q .is-same .ensures)
-
 sub-last : tie.Need-sub-last Inv-loop μ-loop
 sub-last c = search needs
 
@@ -92,7 +91,7 @@ part-last-end c = search needs
 
 loop-holds : tie.Need-loop-holds Inv-loop μ-loop
 unfolding askBody judgeBody
-loop-holds c = (0, refl)
+loop-holds c = (search needs, refl)
 
 take-turn-requires : tie.Need-take-turn-requires Inv-loop μ-loop
 take-turn-requires c κs = search needs
@@ -100,24 +99,25 @@ take-turn-requires c κs = search needs
 enum-told : tie.Need-enum-told Inv-loop μ-loop
 enum-told c = search needs
 
+tell-requires : tie.Need-tell-requires Inv-loop μ-loop
+tell-requires c κs = search needs
+
 returns : tie.Need-returns Inv-loop μ-loop
-returns c =
-    let k = c .before .before in
-    sym (ask-end (here k) (name k) (count k) (tells k _ (c .enum-told .given .1))) ∙ k .before .loop .inv .1
+returns c = let k = c .before .before .before in c .tell .ensures ∙ whole k (ask-end (here k) (name k) (sought k) (count k) (tells k _ (c .before .enum-told .given .1)))
 
 enum-known-why : tie.Need-enum-known-why Inv-loop μ-loop
 enum-known-why c = search needs
 
-first-named-requires : tie.Need-first-named-requires Inv-loop μ-loop
-first-named-requires c κs = search needs
+or-later-requires : tie.Need-or-later-requires Inv-loop μ-loop
+or-later-requires c κs = search needs
 
-verdict-unless-requires : tie.Need-verdict-unless-requires Inv-loop μ-loop
-verdict-unless-requires c κs = search needs
+tell-requires-2 : tie.Need-tell-requires-2 Inv-loop μ-loop
+tell-requires-2 c κs = search needs
 
 returns-2 : tie.Need-returns-2 Inv-loop μ-loop
 returns-2 c =
-    let f = c .before .before .before in
-    c .verdict-unless .ensures ∙ ended (f .before .before) _ (f .why .given .1) _ (c .before .first-named .ensures)
+    let w = c .before .before .before in
+    c .tell2 .ensures ∙ stopped (w .before .before) _ (w .why .given .1) _ (c .before .or-later .ensures)
 
 enum-known-found : tie.Need-enum-known-found Inv-loop μ-loop
 enum-known-found c = search needs
@@ -134,29 +134,30 @@ part-name-of-end c = search needs
 name-of-requires : tie.Need-name-of-requires Inv-loop μ-loop
 name-of-requires c κs = search needs
 
-is-same-requires : tie.Need-is-same-requires Inv-loop μ-loop
-is-same-requires c κs = search needs
+or-this-requires : tie.Need-or-this-requires Inv-loop μ-loop
+or-this-requires c κs = search needs
 
-returns-3 : tie.Need-returns-3 Inv-loop μ-loop
-returns-3 c =
-    let f = of-record (c .before) in
-    let k = its f in
-    sym (ask-found (here k) (name k) (count k) (it f) (on f) (wanted-is (c .before) ∙ c .if1 .taken)) ∙ k .before .loop .inv .1
+add-count : tie.Need-add-count Inv-loop μ-loop
+add-count c =
+    let f = c .before .before .before .before in
+    omega (arith, goes-on (on f .0), its f .before .loop .inv .0, start (its f) .good)
 
 add-place : tie.Need-add-place Inv-loop μ-loop
 add-place c =
-    let f = of-record (c .before .before) in
+    let f = c .before .before .before .before .before in
     omega (arith, goes-on (on f .0), start (its f) .good)
 
 loop-less : tie.Need-loop-less Inv-loop μ-loop
-loop-less c = omega (arith, goes-on (on (of-record (c .before .before)) .0))
+loop-less c = omega (arith, goes-on (on (c .before .before .before .before .before) .0))
 
 loop-again : tie.Need-loop-again Inv-loop μ-loop
 loop-again c =
-    let q = c .before .before in
-    let f = of-record q in
-    let k = its f in
-    (suc (count k), sym (ask-on (here k) (name k) (count k) (it f) (on f) _ (name-is (q .before)) (wanted-is q ∙ c .before .if1 .left)) ∙ k .before .loop .inv .1)
+    let m = c .before .before in
+    let f = found m in
+    let k = its f in (
+      omega (arith, goes-on (on f .0), k .before .loop .inv .0),
+      rw (add-one, c .before .or-this .ensures) (whole k (ask-on (here k) (name k) (sought k) (count k) (it f) (on f) _ (name-is m))),
+    )
 
 pub ask-body-spec : {M : Type 1} → statement M
 ask-body-spec =
@@ -170,18 +171,19 @@ ask-body-spec =
     loop-holds
     take-turn-requires
     enum-told
+    tell-requires
     returns
     enum-known-why
-    first-named-requires
-    verdict-unless-requires
+    or-later-requires
+    tell-requires-2
     returns-2
     enum-known-found
     sub-name-of
     part-name-of-start
     part-name-of-end
     name-of-requires
-    is-same-requires
-    returns-3
+    or-this-requires
+    add-count
     add-place
     loop-less
     loop-again)

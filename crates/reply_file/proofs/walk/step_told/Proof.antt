@@ -42,6 +42,9 @@ step-gives-requires-2 c κs = search needs
 enum-known-said-3 : tie.Need-enum-known-said-3
 enum-known-said-3 c = search needs
 
+fault-number-requires : tie.Need-fault-number-requires
+fault-number-requires c κs = search needs
+
 step-gives-requires-3 : tie.Need-step-gives-requires-3
 step-gives-requires-3 c κs = search needs
 
@@ -70,8 +73,8 @@ returns-2 c =
 
 returns-3 : tie.Need-returns-3
 returns-3 c =
-    let known = c .before .before .before .before in
-    rw (c .step-gives3 .ensures, known .before .answer .given .1, c .before .before .said3 .given .1, known .before .before .before .no-parts .ensures)
+    let known = c .before .before .before .before .before in
+    rw (c .step-gives3 .ensures, known .before .answer .given .1, c .before .before .before .said3 .given .1, c .before .fault-number .ensures, known .before .before .before .no-parts .ensures)
 
 returns-4 : tie.Need-returns-4
 returns-4 c = rw (c .step-gives4 .ensures, c .before .enum-told .given .1, c .before .before .before .no-parts .ensures)
@@ -91,6 +94,7 @@ step-told-spec =
     parts-at-requires
     step-gives-requires-2
     enum-known-said-3
+    fault-number-requires
     step-gives-requires-3
     enum-told
     step-gives-requires-4

@@ -15,7 +15,7 @@ ask-requires : tie.Need-ask-requires
 ask-requires c κs = search needs
 
 ask-told-requires : tie.Need-ask-told-requires
-ask-told-requires c κs = λ place r e. ask-near (start c .args .kind) (start c .args .file .now) (start c .args .name .now) (sym (c .ask .ensures) ∙ e)
+ask-told-requires c κs = λ place r v e. ask-near (start c .args .kind) (start c .args .file .now) (start c .args .name .now) (sym (c .ask .ensures) ∙ e)
 
 returns : tie.Need-returns
 returns c = c .ask-told .ensures ∙ ap (askReply (start (c .before) .args .kind)) (c .before .ask .ensures)

@@ -3,6 +3,7 @@ use mathlib.Core.Path.{_≡_, ap, _∙_}
 use Rattle.ask.specs.declared.AskAnswer.the-variants.{Done}
 use Prim.Native.Nat.{ℕ}
 use Rattle.decode.specs.declared.reference.Record.{Record}
+use Rattle.checks.specs.declared.Verdict.{Verdict}
 use Rattle.ask.specs.declared.Told.the-variants.{Charted}
 use Rattle.tell.specs.Told.{Near}
 use Rattle.tell.proofs.Near.{told-near}
@@ -12,8 +13,8 @@ use Rattle.reply_lookup.proofs.asked.ask_told.Tie as tie
 
 -- where it is a record, its places fit
 module _ (k : tie.After-known-told) where
-  near : {place : ℕ} {r : Record} → k .before .answer .given .0 .0 ≡ Charted place r → Near place r
-  near {place} {r} e = k .before .before .before .before .pre place r (k .before .answer .given .1 ∙ ap Done e)
+  near : {place : ℕ} {r : Record} {v : Verdict} → k .before .answer .given .0 .0 ≡ Charted place r v → Near place r
+  near {place} {r} {v} e = k .before .before .before .before .pre place r v (k .before .answer .given .1 ∙ ap Done e)
 
 no-parts-requires : tie.Need-no-parts-requires
 no-parts-requires c κs = search needs
@@ -26,6 +27,9 @@ enum-known-said c = search needs
 
 parts-at-requires : tie.Need-parts-at-requires
 parts-at-requires c κs = search needs
+
+verdict-number-requires : tie.Need-verdict-number-requires
+verdict-number-requires c κs = search needs
 
 ask-gives-requires : tie.Need-ask-gives-requires
 ask-gives-requires c κs = search needs
@@ -65,9 +69,10 @@ ask-gives-requires-6 c κs = search needs
 
 returns : tie.Need-returns
 returns c =
-    let known = c .before .before .before .before .before in
-    let charted = c .before .before .before .said .given .1 in
-    rw (c .ask-gives .ensures, known .before .answer .given .1, charted, c .before .parts-at .ensures ∙ told-near _ _ _ (near known charted))
+    let known = c .before .before .before .before .before .before in
+    let charted = c .before .before .before .before .said .given .1 in
+    let parts = c .before .before .parts-at .ensures ∙ told-near _ _ _ (near known charted) in
+    rw (c .ask-gives .ensures, known .before .answer .given .1, charted, parts, c .before .verdict-number .ensures)
 
 returns-2 : tie.Need-returns-2
 returns-2 c =
@@ -98,6 +103,7 @@ ask-told-spec =
     enum-known-answer
     enum-known-said
     parts-at-requires
+    verdict-number-requires
     ask-gives-requires
     enum-told
     ask-gives-requires-2

@@ -1,5 +1,5 @@
--- Of two items of ascending names, both are the same, or one ends before the other begins and has the smaller name.
-use mathlib.Core.Path.{_≡_, refl, ap}
+-- Of two items of ascending names, both are the same, or one ends before the other begins and has the smaller name; so at most one has a name.
+use mathlib.Core.Path.{_≡_, refl, ap, _∙_}
 use mathlib.Core.List.{List, [], _∷_, _++_}
 use Prim.Native.Nat.{ℕ, _+_, _≤_}
 use native.Mathlib.Omega.{arith}
@@ -7,9 +7,9 @@ use lib.ListN.{length, length-append}
 use Rattle.compare.specs.declared.order.Order.the-variants.{Less}
 use Rattle.class.specs.Class.{Classes}
 use Rattle.compare.specs.Order.{orderOf}
-use Rattle.compare.proofs.Orders.{less-trans}
+use Rattle.compare.proofs.Orders.{less-trans, order-refl}
 use Rattle.iter.specs.Items.{Item, items, bytesOf, nameOf}
 use Rattle.checks.specs.Passes.{ascending}
 use Rattle.iter.specs.Stands.{Stands}
 
 module _ (n : ℕ) where
@@ -58,3 +58,18 @@ module _ (n : ℕ) where
       → Apart a i b j
   apart byte s {a} {b} {i} {j} up x y =
       rw (x .here, y .here) at (apart-in [] (x .before) (y .before) i j (x .after) (y .after) (items byte n s) up (x .all) (y .all))
+
+  not-less : (v w name : List ℕ) → v ≡ name → w ≡ name → orderOf v w ≡ Less → ⊥
+  not-less v w name p q e =
+      let z : orderOf v w ≡ orderOf name name = ap (λ (x : List ℕ). orderOf x w) p ∙ ap (orderOf name) q in
+      let x : _≡_ {A = ℕ} 0 1 = cc (order-refl name) in
+      omega arith
+
+  pub one-named : {byte : Classes} {s name : List ℕ} {a b : ℕ} {i j : Item} → ascending n [] (items byte n s) → Stands byte n s a i → nameOf n i ≡ name
+      → Stands byte n s b j → nameOf n j ≡ name → (a ≡ b) × (i ≡ j)
+  one-named {byte} {s} {name} {a} {b} {i} {j} up x p y q = go (apart byte s up x y)
+    where
+      go : Apart a i b j → (a ≡ b) × (i ≡ j)
+      go (same e h) = (e, h)
+      go (first h e) = absurd (not-less (nameOf n i) (nameOf n j) name p q e)
+      go (second h e) = absurd (not-less (nameOf n j) (nameOf n i) name q p e)
