@@ -3,6 +3,7 @@ ghost use mathlib.Core.Path.{_≡_};
 ghost use Rattle.class.specs.Class.{classesOf};
 ghost use Rattle.parse.specs.Choice.{if};
 ghost use Rattle.compare.specs.Prefix.{same};
+ghost use Rattle.checks.specs.declared.Verdict.the-variants.{Refused};
 ghost use Rattle.ask.specs.declared.Sought.the-variants.{At, Nowhere};
 ghost use Rattle.ask.specs.Ask.{askOf, askAnswer, askBody, soughtFrom, toldOf, orElse};
 use checks::Refusal;
@@ -82,8 +83,7 @@ pub(crate) fn ask_body(t: &[u8; 256], n: usize, file: &[u8], body: usize, name: 
                 return tell(sought, Verdict::Clean(count));
             }
             Turn::Refused(why) => {
-                let first = or_later(sought, t, n, file, place, name);
-                return tell(first, Verdict::Refused(why));
+                return tell_at_fault(sought, t, n, file, place, name, why);
             }
             Turn::On(found) => {
                 last = decode::reference::name_of(&file[place..], n, found);
@@ -107,23 +107,6 @@ fn or_this(sought: Sought, name: &[u8], its: &[u8], place: usize, found: Record)
             }
             Sought::Nowhere
         }
-    }
-}
-
-// What was found before, or else the first record of the name from a place on.
-fn or_later(
-    sought: Sought,
-    t: &[u8; 256],
-    n: usize,
-    file: &[u8],
-    from: usize,
-    name: &[u8],
-) -> Sought
-    ensures { λ r. ⌜ r ≡ orElse sought (soughtFrom (classesOf (now (t .entry))) n (now (file .entry)) from (now (name .entry))) ⌝ }
-{
-    match sought {
-        Sought::At { place: _, found: _ } => sought,
-        Sought::Nowhere => first_named(t, n, file, from, name),
     }
 }
 
@@ -163,5 +146,26 @@ fn tell(sought: Sought, verdict: Verdict) -> Told
             Verdict::Clean(_) => Told::Absent,
             Verdict::Refused(why) => Told::Refused(why),
         },
+    }
+}
+
+// At the first fault, which stands at a place: a record that was found before it is told with it, and so is the first one from there on.
+fn tell_at_fault(
+    sought: Sought,
+    t: &[u8; 256],
+    n: usize,
+    file: &[u8],
+    from: usize,
+    name: &[u8],
+    why: Refusal,
+) -> Told
+    ensures { λ r. ⌜ r ≡ toldOf (orElse sought (soughtFrom (classesOf (now (t .entry))) n (now (file .entry)) from (now (name .entry)))) (Refused why) ⌝ }
+{
+    match sought {
+        Sought::At { place: _, found: _ } => tell(sought, Verdict::Refused(why)),
+        Sought::Nowhere => {
+            let later = first_named(t, n, file, from, name);
+            tell(later, Verdict::Refused(why))
+        }
     }
 }

@@ -1,7 +1,8 @@
 -- Demand 1: every call is answered or refused with one of document 01's numbers, and what a refused merge leaves of the lent memory.
-use mathlib.Core.Path.{_≡_, refl}
+use mathlib.Core.Path.{_≡_, refl, sym, _∙_, subst}
 use mathlib.Core.Bool.{Bool, true, false}
 use mathlib.Core.List.{List, [], _∷_, _++_}
+use mathlib.Core.Logic.{_⊎_, inl, inr}
 use Prim.Native.Nat.{ℕ}
 use native.Mathlib.Omega.{arith}
 use lib.Dec.{eqb, ltb}
@@ -32,7 +33,7 @@ use Rattle.start.specs.declared.StartAnswer.the-variants as started
 use Rattle.start.specs.Start.{startAnswer, startNumber}
 use Rattle.iter.specs.declared.step.StepAnswer.{StepAnswer}
 use Rattle.iter.specs.declared.step.StepAnswer.the-variants as stepped
-use Rattle.iter.specs.Items.{nameIn}
+use Rattle.iter.specs.Items.{Item, items, nameIn}
 use Rattle.iter.specs.Step.{stepAnswer, stepNumber}
 use Rattle.checks.specs.declared.Refusal.{Refusal}
 use Rattle.checks.specs.declared.Refusal.the-variants as refusal
@@ -41,18 +42,27 @@ use Rattle.checks.specs.declared.Verdict.the-variants as verdict
 use Rattle.checks.specs.declared.CheckAnswer.{CheckAnswer}
 use Rattle.checks.specs.declared.CheckAnswer.the-variants as checked
 use Rattle.checks.specs.declared.Turn.the-variants as turn
-use Rattle.checks.specs.Check.{checkOf, checkAnswer, checkNumber, refusalNumber, turnBy, turnOf, turnNumber}
+use Rattle.checks.specs.Check.{checkOf, checkAnswer, checkNumber, refusalNumber, verdictNumber, turnBy, turnOf, turnNumber}
+use Rattle.checks.proofs.Passes.{Says, says}
+use Rattle.checks.proofs.CheckMeans.{read}
+use Rattle.ask.specs.declared.Told.{Told}
 use Rattle.ask.specs.declared.Told.the-variants as told
 use Rattle.ask.specs.declared.AskAnswer.{AskAnswer}
 use Rattle.ask.specs.declared.AskAnswer.the-variants as asked
-use Rattle.ask.specs.Ask.{askAnswer, askNumber}
+use Rattle.ask.specs.Ask.{askOf, askAnswer, askNumber, askFault}
+use Rattle.ask.proofs.Trusted.{trusted}
 use Rattle.find.specs.declared.lookup.Lookup.the-variants as lookup
 use Rattle.find.specs.declared.lookup.LookupAnswer.{LookupAnswer}
 use Rattle.find.specs.declared.lookup.LookupAnswer.the-variants as looked
 use Rattle.find.specs.declared.prefix_start.PrefixStart.the-variants as prefixed
 use Rattle.find.specs.declared.prefix_start.PrefixStartAnswer.{PrefixStartAnswer}
 use Rattle.find.specs.declared.prefix_start.PrefixStartAnswer.the-variants as listed
-use Rattle.find.specs.Lookup.{lookupAnswer, lookupNumber}
+use Rattle.search.specs.declared.Halved.{Halved}
+use Rattle.search.specs.declared.Halved.the-variants.{Hit, Miss}
+use Rattle.search.specs.Search.{searchOf}
+use Rattle.find.specs.Lookup.{lookupOf, lookupAnswer, lookupNumber}
+use Rattle.find.specs.Hits.{numberOf}
+use Rattle.find.proofs.Hits.{hit-or-miss}
 use Rattle.find.specs.PrefixStart.{prefixStartAnswer, prefixStartNumber}
 use Rattle.loose.specs.declared.Loose.the-variants as loose
 use Rattle.loose.specs.declared.LooseAnswer.{LooseAnswer}
@@ -75,16 +85,16 @@ use Rattle.merge.specs.declared.Merged.the-variants.{Done, UnknownKind, TooLarg
 use Rattle.merge.specs.Override.{Override}
 use Rattle.merge.specs.Merge as merged
 use Rattle.merge.specs.Merge.{overridden, isIdle, newFile, oldEntries, editsInOrder, finished, judgedBy, judged, mergeOf, outputOf, mergeAnswer, mergeNumber, outputBy, outputAfter, indexAnswer}
-use Rattle.demands.specs.Refused.{AnsweredBy, beforeEleven, Filled, Leaves, Demand1}
+use Rattle.demands.specs.Refused.{AnsweredBy, badRecord, beforeEleven, Filled, Leaves, Demand1}
 
 -- ---- each answer has one of its numbers
 
-four : (f : Fault) → faultNumber f ≡ 4
-four Id = refl
-four Space = refl
-four LineEnd = refl
-four Name = refl
-four Peeled = refl
+by-part : (l : List ℕ) → AnsweredBy 41 l → AnsweredBy 42 l → AnsweredBy 43 l → AnsweredBy 44 l → AnsweredBy 45 l → (f : Fault) → AnsweredBy (faultNumber f) l
+by-part l id space end name peeled Id = id
+by-part l id space end name peeled Space = space
+by-part l id space end name peeled LineEnd = end
+by-part l id space end name peeled Name = name
+by-part l id space end name peeled Peeled = peeled
 
 header-number : (a : HeaderAnswer) → AnsweredBy (headerNumber a) (0 ∷ 17 ∷ 2 ∷ [])
 header-number (headed.Done (opened.Header h)) = refl
@@ -111,22 +121,40 @@ step-number (stepped.Done r) = refl
 step-number stepped.UnknownKind = refl
 step-number stepped.TooLarge = refl
 
-check-number : (a : CheckAnswer) → AnsweredBy (checkNumber a) (0 ∷ 1 ∷ 17 ∷ 2 ∷ 4 ∷ 6 ∷ [])
+check-number : (a : CheckAnswer) → AnsweredBy (checkNumber a) (0 ∷ 1 ∷ 17 ∷ 2 ∷ 6 ∷ badRecord)
 check-number (checked.Done (verdict.Clean count)) = refl
 check-number (checked.Done (verdict.Refused (refusal.BadHeader k))) = refl
-check-number (checked.Done (verdict.Refused (refusal.BadRecord place f))) = rw (four f)
+check-number (checked.Done (verdict.Refused (refusal.BadRecord place f))) = by-part (0 ∷ 1 ∷ 17 ∷ 2 ∷ 6 ∷ badRecord) refl refl refl refl refl f
 check-number (checked.Done (verdict.Refused (refusal.Unsorted place))) = refl
 check-number checked.UnknownKind = refl
 check-number checked.TooLarge = refl
 
-lookup-number : (a : LookupAnswer) → AnsweredBy (lookupNumber a) (0 ∷ 1 ∷ 17 ∷ 3 ∷ 4 ∷ 5 ∷ [])
-lookup-number (looked.Done (lookup.Charted place r)) = refl
-lookup-number (looked.Done (lookup.BadRecord place f)) = rw (four f)
-lookup-number (looked.Done lookup.Unsure) = refl
-lookup-number (looked.Done lookup.Absent) = refl
-lookup-number (looked.Done lookup.BadName) = refl
-lookup-number looked.UnknownKind = refl
-lookup-number looked.TooLarge = refl
+-- by how the search ends
+looked-number : (n : ℕ) (body name : List ℕ) → AnsweredBy (numberOf n body name) (0 ∷ 1 ∷ 17 ∷ 3 ∷ 41 ∷ 45 ∷ 4 ∷ 5 ∷ [])
+unfolding lookupOf
+looked-number n body name = go (validName paper name) refl (searchOf paper n body name) refl
+  where
+    by-hit : (k : ℕ) → (k ≡ 0) ⊎ ((k ≡ 41) ⊎ (k ≡ 45)) → AnsweredBy k (0 ∷ 1 ∷ 17 ∷ 3 ∷ 41 ∷ 45 ∷ 4 ∷ 5 ∷ [])
+    by-hit k (inl e) = rw e
+    by-hit k (inr (inl e)) = rw e
+    by-hit k (inr (inr e)) = rw e
+
+    go : (b : Bool) → validName paper name ≡ b → (h : Halved) → searchOf paper n body name ≡ h
+        → AnsweredBy (numberOf n body name) (0 ∷ 1 ∷ 17 ∷ 3 ∷ 41 ∷ 45 ∷ 4 ∷ 5 ∷ [])
+    go false v h e = rw v
+    go true v (Hit place) e = by-hit (numberOf n body name) (hit-or-miss n body name v .hit place e)
+    go true v (Miss place true) e = rw (hit-or-miss n body name v .miss place true e)
+    go true v (Miss place false) e = rw (hit-or-miss n body name v .miss place false e)
+
+lookup-number : (kind : ℕ) (body name : List ℕ) → AnsweredBy (lookupNumber (lookupAnswer kind body name)) (0 ∷ 1 ∷ 17 ∷ 3 ∷ 41 ∷ 45 ∷ 4 ∷ 5 ∷ [])
+unfolding lookupAnswer
+lookup-number kind body name = go (admission kind (length body) (length name)) refl
+  where
+    go : (a : Admission) → admission kind (length body) (length name) ≡ a
+        → AnsweredBy (lookupNumber (lookupAnswer kind body name)) (0 ∷ 1 ∷ 17 ∷ 3 ∷ 41 ∷ 45 ∷ 4 ∷ 5 ∷ [])
+    go (admitted.Digits n) e = rw e (looked-number n body name)
+    go admitted.UnknownKind e = rw e
+    go admitted.TooLarge e = rw e
 
 prefix-start-number : (a : PrefixStartAnswer) → AnsweredBy (prefixStartNumber a) (0 ∷ 1 ∷ 17 ∷ 2 ∷ [])
 prefix-start-number (listed.Done (prefixed.From place item)) = refl
@@ -134,15 +162,40 @@ prefix-start-number (listed.Done (prefixed.BadHeader place text)) = refl
 prefix-start-number listed.UnknownKind = refl
 prefix-start-number listed.TooLarge = refl
 
-ask-number : (a : AskAnswer) → AnsweredBy (askNumber a) (0 ∷ 1 ∷ 17 ∷ 3 ∷ 2 ∷ 4 ∷ 6 ∷ 5 ∷ [])
-ask-number (asked.Done (told.Charted place r)) = refl
+ask-number : (a : AskAnswer) → AnsweredBy (askNumber a) (0 ∷ 1 ∷ 17 ∷ 3 ∷ 5 ∷ 2 ∷ 6 ∷ badRecord)
+ask-number (asked.Done (told.Charted place r v)) = refl
 ask-number (asked.Done told.Absent) = refl
 ask-number (asked.Done told.BadName) = refl
 ask-number (asked.Done (told.Refused (refusal.BadHeader k))) = refl
-ask-number (asked.Done (told.Refused (refusal.BadRecord place f))) = rw (four f)
+ask-number (asked.Done (told.Refused (refusal.BadRecord place f))) = by-part (0 ∷ 1 ∷ 17 ∷ 3 ∷ 5 ∷ 2 ∷ 6 ∷ badRecord) refl refl refl refl refl f
 ask-number (asked.Done (told.Refused (refusal.Unsorted place))) = refl
 ask-number asked.UnknownKind = refl
 ask-number asked.TooLarge = refl
+
+-- what stands beside charted is never about the header: it was read
+told-fault : (n : ℕ) (file name : List ℕ) (w : Told) → askOf paper n file name ≡ w → AnsweredBy (askFault (asked.Done w)) (0 ∷ 6 ∷ badRecord)
+told-fault n file name (told.Charted place r v) e =
+    let (h, inner, opens, here, x, checked) = trusted n file name .charted place r v e in
+    let begins : Says n (h .body) (items paper n (drop (h .body) file)) v = subst (Says n (h .body) (items paper n (drop (h .body) file))) (sym (read paper n file opens) ∙ checked) (says n (h .body) (items paper n (drop (h .body) file))) in
+    go (h .body) (items paper n (drop (h .body) file)) v begins
+  where
+    go : (begin : ℕ) (l : List Item) (v : Verdict) → Says n begin l v → AnsweredBy (verdictNumber v) (0 ∷ 6 ∷ badRecord)
+    go begin l (verdict.Clean count) x = refl
+    go begin l (verdict.Refused (refusal.BadHeader text)) x = absurd x
+    go begin l (verdict.Refused (refusal.BadRecord at f)) x = by-part (0 ∷ 6 ∷ badRecord) refl refl refl refl refl f
+    go begin l (verdict.Refused (refusal.Unsorted at)) x = refl
+told-fault n file name told.Absent e = refl
+told-fault n file name told.BadName e = refl
+told-fault n file name (told.Refused why) e = refl
+
+ask-fault-number : (kind : ℕ) (file name : List ℕ) → AnsweredBy (askFault (askAnswer kind file name)) (0 ∷ 6 ∷ badRecord)
+unfolding askAnswer
+ask-fault-number kind file name = go (admission kind (length file) (length name)) refl
+  where
+    go : (a : Admission) → admission kind (length file) (length name) ≡ a → AnsweredBy (askFault (askAnswer kind file name)) (0 ∷ 6 ∷ badRecord)
+    go (admitted.Digits n) e = rw e (told-fault n file name (askOf paper n file name) refl)
+    go admitted.UnknownKind e = rw e
+    go admitted.TooLarge e = rw e
 
 loose-number : (a : LooseAnswer) → AnsweredBy (looseNumber a) (0 ∷ 1 ∷ 17 ∷ 15 ∷ 16 ∷ [])
 loose-number (loosely.Done (loose.Id n)) = refl
@@ -152,7 +205,7 @@ loose-number (loosely.Done loose.BadTarget) = refl
 loose-number loosely.UnknownKind = refl
 loose-number loosely.TooLarge = refl
 
-merge-number : (a : Merged) → AnsweredBy (mergeNumber a) (0 ∷ 1 ∷ 17 ∷ 7 ∷ 8 ∷ 9 ∷ 10 ∷ 11 ∷ 2 ∷ 4 ∷ 6 ∷ 13 ∷ 14 ∷ 12 ∷ [])
+merge-number : (a : Merged) → AnsweredBy (mergeNumber a) (0 ∷ 1 ∷ 17 ∷ 7 ∷ 8 ∷ 9 ∷ 10 ∷ 11 ∷ 13 ∷ 14 ∷ 12 ∷ 2 ∷ 6 ∷ badRecord)
 merge-number (Done len) = refl
 merge-number UnknownKind = refl
 merge-number TooLarge = refl
@@ -162,7 +215,7 @@ merge-number (BadList (fault.TooMany place)) = refl
 merge-number ShortIndex = refl
 merge-number (Twins place) = refl
 merge-number (Refused (refusal.BadHeader k)) = refl
-merge-number (Refused (refusal.BadRecord place f)) = rw (four f)
+merge-number (Refused (refusal.BadRecord place f)) = by-part (0 ∷ 1 ∷ 17 ∷ 7 ∷ 8 ∷ 9 ∷ 10 ∷ 11 ∷ 13 ∷ 14 ∷ 12 ∷ 2 ∷ 6 ∷ badRecord) refl refl refl refl refl f
 merge-number (Refused (refusal.Unsorted place)) = refl
 merge-number NothingToDo = refl
 merge-number NoRecord = refl
@@ -174,18 +227,18 @@ admission-number admitted.UnknownKind = refl
 admission-number admitted.TooLarge = refl
 
 -- a turn speaks of records alone, never of the header
-turn-number : (byte : Classes) (n : ℕ) (file : List ℕ) (place : ℕ) (last : List ℕ) → AnsweredBy (turnNumber (turnOf byte n file place last)) (0 ∷ 4 ∷ 6 ∷ [])
+turn-number : (byte : Classes) (n : ℕ) (file : List ℕ) (place : ℕ) (last : List ℕ) → AnsweredBy (turnNumber (turnOf byte n file place last)) (0 ∷ 6 ∷ badRecord)
 unfolding turnOf
 turn-number byte n file place last = go (ltb place (length file)) (recordOf byte n (drop place file))
   where
-    by-name : (b : Bool) (r : Record) → AnsweredBy (turnNumber (if b (turn.On r) (turn.Refused (refusal.Unsorted place)))) (0 ∷ 4 ∷ 6 ∷ [])
+    by-name : (b : Bool) (r : Record) → AnsweredBy (turnNumber (if b (turn.On r) (turn.Refused (refusal.Unsorted place)))) (0 ∷ 6 ∷ badRecord)
     by-name true r = refl
     by-name false r = refl
 
-    go : (b : Bool) (w : Reading) → AnsweredBy (turnNumber (if b (turnBy n last (drop place file) place w) turn.End)) (0 ∷ 4 ∷ 6 ∷ [])
+    go : (b : Bool) (w : Reading) → AnsweredBy (turnNumber (if b (turnBy n last (drop place file) place w) turn.End)) (0 ∷ 6 ∷ badRecord)
     go false w = refl
     go true (Good r) = by-name (smaller last (nameIn n (Good r) (drop place file))) r
-    go true (Bad f) = rw (four f)
+    go true (Bad f) = by-part (0 ∷ 6 ∷ badRecord) refl refl refl refl refl f
 
 prepared-number : (p : Prepared) → AnsweredBy (preparedNumber p) (0 ∷ 17 ∷ 7 ∷ 8 ∷ 9 ∷ 10 ∷ 11 ∷ [])
 prepared-number (prepared.Ready k) = refl
@@ -205,7 +258,11 @@ kept-out new out m not-done = rw (ne-eqb (mergeNumber m) 0 not-done)
 -- behind 11 no number is given that stands before it
 refusal-late : (why : Refusal) → beforeEleven (refusalNumber why) ≡ false
 refusal-late (refusal.BadHeader k) = refl
-refusal-late (refusal.BadRecord place f) = rw (four f)
+refusal-late (refusal.BadRecord place Id) = refl
+refusal-late (refusal.BadRecord place Space) = refl
+refusal-late (refusal.BadRecord place LineEnd) = refl
+refusal-late (refusal.BadRecord place Name) = refl
+refusal-late (refusal.BadRecord place Peeled) = refl
 refusal-late (refusal.Unsorted place) = refl
 
 finished-late : (olds : List Entry) (edits : List Override) (room : ℕ) → beforeEleven (mergeNumber (finished olds edits room)) ≡ false
@@ -296,9 +353,10 @@ demand-1 =
             start = λ kind file. start-number (startAnswer kind file);
             step = λ kind prefix bytes place item. step-number (stepAnswer kind prefix bytes place item);
             check = λ kind file. check-number (checkAnswer kind file);
-            lookup = λ kind body name. lookup-number (lookupAnswer kind body name);
+            lookup = lookup-number;
             prefix-start = λ kind body prefix. prefix-start-number (prefixStartAnswer kind body prefix);
             ask = λ kind file name. ask-number (askAnswer kind file name);
+            ask-fault = ask-fault-number;
             loose = λ kind content. loose-number (looseAnswer kind content);
             merge = λ kind old list indexRoom room. merge-number (mergeAnswer kind old list indexRoom room);
             admit = λ kind size other. admission-number (admission kind size other);

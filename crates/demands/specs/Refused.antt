@@ -13,7 +13,7 @@ use Rattle.header.specs.Header.{headerAnswer, headerNumber}
 use Rattle.start.specs.Start.{startAnswer, startNumber}
 use Rattle.iter.specs.Step.{stepAnswer, stepNumber}
 use Rattle.checks.specs.Check.{checkAnswer, checkNumber, turnOf, turnNumber}
-use Rattle.ask.specs.Ask.{askAnswer, askNumber}
+use Rattle.ask.specs.Ask.{askAnswer, askNumber, askFault}
 use Rattle.find.specs.Lookup.{lookupAnswer, lookupNumber}
 use Rattle.find.specs.PrefixStart.{prefixStartAnswer, prefixStartNumber}
 use Rattle.loose.specs.Loose.{looseAnswer, looseNumber}
@@ -26,27 +26,33 @@ use Rattle.merge.specs.Merge.{mergeAnswer, mergeNumber, outputAfter, indexAnswe
 abbrev pub AnsweredBy : ℕ → List ℕ → Type 0
 AnsweredBy number l = among number l ≡ true
 
+-- "41 first id, 42 no space, 43 line not ended properly, 44 name, 45 anything in the `^` line"
+abbrev pub badRecord : List ℕ
+badRecord = 41 ∷ 42 ∷ 43 ∷ 44 ∷ 45 ∷ []
+
 pub record AllNumbered : Type 0 where
   pub header : (file : List ℕ) → AnsweredBy (headerNumber (headerAnswer file)) (0 ∷ 17 ∷ 2 ∷ [])
   pub name : (name : List ℕ) → AnsweredBy (nameNumber name) (0 ∷ 17 ∷ 3 ∷ [])
   pub start : (kind : ℕ) (file : List ℕ) → AnsweredBy (startNumber (startAnswer kind file)) (0 ∷ 1 ∷ 17 ∷ 2 ∷ [])
   pub step : (kind : ℕ) (prefix bytes : List ℕ) (place item : ℕ) → AnsweredBy (stepNumber (stepAnswer kind prefix bytes place item)) (0 ∷ 1 ∷ 17 ∷ [])
-  pub check : (kind : ℕ) (file : List ℕ) → AnsweredBy (checkNumber (checkAnswer kind file)) (0 ∷ 1 ∷ 17 ∷ 2 ∷ 4 ∷ 6 ∷ [])
-  pub lookup : (kind : ℕ) (body name : List ℕ) → AnsweredBy (lookupNumber (lookupAnswer kind body name)) (0 ∷ 1 ∷ 17 ∷ 3 ∷ 4 ∷ 5 ∷ [])
+  pub check : (kind : ℕ) (file : List ℕ) → AnsweredBy (checkNumber (checkAnswer kind file)) (0 ∷ 1 ∷ 17 ∷ 2 ∷ 6 ∷ badRecord)
+  -- a hit that can't be read is 41 or 45, a miss after a failed probe 4
+  pub lookup : (kind : ℕ) (body name : List ℕ) → AnsweredBy (lookupNumber (lookupAnswer kind body name)) (0 ∷ 1 ∷ 17 ∷ 3 ∷ 41 ∷ 45 ∷ 4 ∷ 5 ∷ [])
   pub prefix-start : (kind : ℕ) (body prefix : List ℕ) → AnsweredBy (prefixStartNumber (prefixStartAnswer kind body prefix)) (0 ∷ 1 ∷ 17 ∷ 2 ∷ [])
-  pub ask : (kind : ℕ) (file name : List ℕ) → AnsweredBy (askNumber (askAnswer kind file name)) (0 ∷ 1 ∷ 17 ∷ 3 ∷ 2 ∷ 4 ∷ 6 ∷ 5 ∷ [])
+  pub ask : (kind : ℕ) (file name : List ℕ) → AnsweredBy (askNumber (askAnswer kind file name)) (0 ∷ 1 ∷ 17 ∷ 3 ∷ 5 ∷ 2 ∷ 6 ∷ badRecord)
+  pub ask-fault : (kind : ℕ) (file name : List ℕ) → AnsweredBy (askFault (askAnswer kind file name)) (0 ∷ 6 ∷ badRecord)
   pub loose : (kind : ℕ) (content : List ℕ) → AnsweredBy (looseNumber (looseAnswer kind content)) (0 ∷ 1 ∷ 17 ∷ 15 ∷ 16 ∷ [])
   pub merge : (kind : ℕ) (old list : List ℕ) (indexRoom room : ℕ)
-      → AnsweredBy (mergeNumber (mergeAnswer kind old list indexRoom room)) (0 ∷ 1 ∷ 17 ∷ 7 ∷ 8 ∷ 9 ∷ 10 ∷ 11 ∷ 2 ∷ 4 ∷ 6 ∷ 13 ∷ 14 ∷ 12 ∷ [])
+      → AnsweredBy (mergeNumber (mergeAnswer kind old list indexRoom room)) (0 ∷ 1 ∷ 17 ∷ 7 ∷ 8 ∷ 9 ∷ 10 ∷ 11 ∷ 13 ∷ 14 ∷ 12 ∷ 2 ∷ 6 ∷ badRecord)
   -- and what one layer answers to the next
   pub admit : (kind size other : ℕ) → AnsweredBy (admissionNumber (admission kind size other)) (0 ∷ 1 ∷ 17 ∷ [])
-  pub turn : (byte : Classes) (n : ℕ) (file : List ℕ) (place : ℕ) (last : List ℕ) → AnsweredBy (turnNumber (turnOf byte n file place last)) (0 ∷ 4 ∷ 6 ∷ [])
+  pub turn : (byte : Classes) (n : ℕ) (file : List ℕ) (place : ℕ) (last : List ℕ) → AnsweredBy (turnNumber (turnOf byte n file place last)) (0 ∷ 6 ∷ badRecord)
   pub prepare : (byte : Classes) (n : ℕ) (list : List ℕ) (room : ℕ)
       → AnsweredBy (preparedNumber (preparedOf byte n list room)) (0 ∷ 17 ∷ 7 ∷ 8 ∷ 9 ∷ 10 ∷ 11 ∷ [])
 
 -- ---- what a merge leaves of the memory that it is lent
 
--- the refusals that stand before 11 in "Order: 1, 17, 7/8/9 by place, 10, 11, 2, 4/6 by place, 13, 14, 12."
+-- the refusals that stand before 11 in "Order: 1, 17, 7/8/9 by place, 10, 11, 2, 4/6 by place, 13, 14, 12.", where 4 is 41 to 45 now
 abbrev pub beforeEleven : ℕ → Bool
 beforeEleven number = among number (1 ∷ 17 ∷ 7 ∷ 8 ∷ 9 ∷ 10 ∷ [])
 

@@ -20,6 +20,7 @@ boundary = record {
   tell-no-parts = λ m k o o′. by-answer k o o′ refl;
   tell-refusal = λ m k o o′. by-answer k o o′ refl;
   tell-fault-number = λ m k o o′. by-answer k o o′ refl;
+  tell-verdict-number = λ m k o o′. by-answer k o o′ refl;
   packed-refs-header = λ m k o o′. by-answer k o o′ refl;
   packed-refs-name = λ m k o o′. by-answer k o o′ refl;
   packed-refs-start = λ m k o o′. by-answer k o o′ refl;

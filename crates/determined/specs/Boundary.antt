@@ -14,6 +14,7 @@ use Rattle.tell.proofs.parts_at
 use Rattle.tell.proofs.no_parts
 use Rattle.tell.proofs.refusal
 use Rattle.tell.proofs.fault_number
+use Rattle.tell.proofs.verdict_number
 use Rattle.host.proofs.read.packed_refs_header
 use Rattle.host.proofs.read.packed_refs_name
 use Rattle.host.proofs.read.packed_refs_start
@@ -44,6 +45,7 @@ pub record Boundary : Type 2 where
   pub tell-no-parts : Determined no_parts.ended (λ M. no_parts.clauses)
   pub tell-refusal : Determined refusal.ended (λ M. refusal.clauses)
   pub tell-fault-number : Determined fault_number.ended (λ M. fault_number.clauses)
+  pub tell-verdict-number : Determined verdict_number.ended (λ M. verdict_number.clauses)
   pub packed-refs-header : Determined packed_refs_header.ended (λ M. packed_refs_header.clauses)
   pub packed-refs-name : Determined packed_refs_name.ended (λ M. packed_refs_name.clauses)
   pub packed-refs-start : Determined packed_refs_start.ended (λ M. packed_refs_start.clauses)

@@ -2,6 +2,7 @@ pub mod Checked
 pub mod Cut
 pub mod Found
 pub mod GoodShape
+pub mod Hits
 pub mod InFile
 pub mod ItemAt
 pub mod Leading

@@ -1,3 +1,4 @@
+pub mod Hits
 pub mod Lookup
 pub mod PrefixStart
 pub mod Present

@@ -1,5 +1,6 @@
 -- A name that has a component ending in `.lock`, in each place where a name can stand. Document 02, Four: "Git's page forbids any component
--- ending in `.lock`". "Records, looked-up names, edits and symbolic targets that have such a component now give 4, 3, 8 and 16."
+-- ending in `.lock`". "Records, looked-up names, edits and symbolic targets that have such a component now give 4, 3, 8 and 16", the record's 4 being 44 since
+-- Six.
 use mathlib.Core.Path.{_≡_}
 use mathlib.Core.Bool.{true, false}
 use mathlib.Core.List.{List}
@@ -32,9 +33,9 @@ use Rattle.loose.specs.Loose.{refMark, pathStart, pathLen, looseAnswer, looseNu
 
 -- with an id kind whose ids have n digits
 pub record Refused (kind n : ℕ) (name : List ℕ) : Type 0 where
-  -- a record of that name, whose id, space and line end can be read, is bad in its name: 4
+  -- a record of that name, whose id, space and line end can be read, is bad in its name: 44
   pub badRecord : (s : List ℕ) {idEnd from end next : ℕ} → idAt paper n s 0 ≡ At idEnd → byteAt 32 s idEnd ≡ At from → textAt paper s from ≡ Ended end next
-      → take (end - from) (drop from s) ≡ name → (recordOf paper n s ≡ Bad Name) × (faultNumber Name ≡ 4)
+      → take (end - from) (drop from s) ≡ name → (recordOf paper n s ≡ Bad Name) × (faultNumber Name ≡ 44)
   -- no record that can be read has that name
   pub noRecord : (s : List ℕ) (r : Record) → recordOf paper n s ≡ Good r → entryOf n s r .name ≡ name → ⊥
   -- looked up in any bytes within the limit: 3

@@ -35,9 +35,9 @@ computed name =
 abbrev pub taken : List ℕ → Row
 taken name = record { name = name; check = 0; lookup = 0; ask = 0; merge = 0; loose = 0 }
 
--- "Records, looked-up names, edits and symbolic targets that have such a component now give 4, 3, 8 and 16."
+-- "Records, looked-up names, edits and symbolic targets that have such a component now give 4, 3, 8 and 16", the record's 4 being 44 since Six
 abbrev pub refused : List ℕ → Row
-refused name = record { name = name; check = 4; lookup = 3; ask = 3; merge = 8; loose = 16 }
+refused name = record { name = name; check = 44; lookup = 3; ask = 3; merge = 8; loose = 16 }
 
 -- `a` is 97, `b` 98, `c` 99, `x` 120; `/` is 47; `.loc` and `k` are 46, 108, 111, 99 and 107
 abbrev pub rows : List Row

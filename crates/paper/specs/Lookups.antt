@@ -7,6 +7,7 @@ use Rattle.decode.specs.declared.reference.Fault.the-variants.{Id, Peeled}
 use Rattle.checks.specs.declared.Refusal.the-variants.{BadRecord}
 use Rattle.find.specs.declared.lookup.Lookup.{Lookup}
 use Rattle.find.specs.declared.lookup.Lookup.the-variants as lookup
+use Rattle.checks.specs.declared.Verdict.the-variants.{Clean}
 use Rattle.ask.specs.declared.Told.{Told}
 use Rattle.ask.specs.declared.Told.the-variants as told
 use Rattle.find.specs.Lookup.{lookupOf}
@@ -42,8 +43,8 @@ cases =
     -- a line that can't be read: never absent
     ∷ record { bytes = 120 ∷ 10 ∷ []; found = lookup.Unsure; asked = told.Refused (BadRecord 0 Id) }
     -- a record of that name, and one of another
-    ∷ record { bytes = line 97 []; found = lookup.Charted 0 (record { «name_len» = 8; peeled = 0; size = 50 }); asked = told.Charted 0 (record { «name_len» = 8; peeled = 0; size = 50 }) }
+    ∷ record { bytes = line 97 []; found = lookup.Charted 0 (record { «name_len» = 8; peeled = 0; size = 50 }); asked = told.Charted 0 (record { «name_len» = 8; peeled = 0; size = 50 }) (Clean 1) }
     ∷ record { bytes = line 98 []; found = lookup.Absent; asked = told.Absent }
-    -- a bad `^` line spoils the record before it: a hit gives 4 with its place
+    -- a bad `^` line spoils the record before it: a hit gives 45 with its place
     ∷ record { bytes = line 97 (94 ∷ 122 ∷ 122 ∷ 10 ∷ []); found = lookup.BadRecord 0 Peeled; asked = told.Refused (BadRecord 0 Peeled) }
     ∷ []

@@ -1,9 +1,10 @@
 -- One turn of halving, and what a loop that halves keeps. For any probes.
-use mathlib.Core.Path.{_≡_, refl, sym, _∙_}
-use mathlib.Core.Bool.{Bool, false, _||_}
+use mathlib.Core.Path.{_≡_, refl, sym, ap, _∙_}
+use mathlib.Core.Bool.{Bool, true, false, _||_}
 use Prim.Native.Nat.{ℕ, zero, suc, pred, _+_, _-_, _≤_, _<_}
 use native.Mathlib.Omega.{arith}
-use borrow.Author.Tests.{lt-ltb, le-ltb}
+use lib.Dec.{ltb}
+use borrow.Author.Tests.{lt-ltb, le-ltb, ltb-true, ltb-false}
 use Rattle.compare.specs.declared.order.Order.{Order}
 use Rattle.compare.specs.declared.order.Order.the-variants.{Less, Equal, Greater}
 use Rattle.search.specs.declared.Halved.the-variants.{Hit, Miss}
@@ -68,3 +69,23 @@ module _ (order : ℕ → Order) (failure : ℕ → Bool) where
             within = omega (arith, g .within);
             same = sym (halve-greater low high failed open! (g .turns) (g .enough) e) ∙ g .same;
           }
+
+  -- ---- a hit is a place of the wanted name
+
+  pub hit-equal : (turns low high : ℕ) (failed : Bool) → high ≤ low + turns → (m : ℕ) → halve order failure turns low high failed ≡ Hit m → order m ≡ Equal
+  hit-equal zero low high failed g m e = absurd (let h = sym (halve-done zero low high failed (omega arith)) ∙ e in let z : _≡_ {A = ℕ} 0 1 = cc in omega arith)
+  hit-equal (suc turns) low high failed g m e = go (ltb low high) refl (order (middle low high)) refl (hit-equal turns)
+    where
+      go : (t : Bool) → ltb low high ≡ t → (o : Order) → order (middle low high) ≡ o
+          → ((l h : ℕ) (f : Bool) → h ≤ l + turns → (k : ℕ) → halve order failure turns l h f ≡ Hit k → order k ≡ Equal) → order m ≡ Equal
+      go false p o q later = absurd (let h = sym (halve-done (suc turns) low high failed (ltb-false low high p)) ∙ e in let z : _≡_ {A = ℕ} 0 1 = cc in omega arith)
+      go true p Less q later =
+          let w = ltb-true low high p in
+          later (middle low high + 1) high (failed || failure (middle low high)) (omega arith) m (sym (halve-less low high failed w (suc turns) g q) ∙ e)
+      go true p Equal q later =
+          let h = sym (halve-equal low high failed (ltb-true low high p) (suc turns) g q) ∙ e in
+          let z : middle low high ≡ m = cc in
+          ap order (sym z) ∙ q
+      go true p Greater q later =
+          let w = ltb-true low high p in
+          later low (middle low high) (failed || failure (middle low high)) (omega arith) m (sym (halve-greater low high failed w (suc turns) g q) ∙ e)

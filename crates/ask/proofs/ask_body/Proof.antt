@@ -58,9 +58,9 @@ module _ (k : tie.After-take-turn Inv-loop μ-loop) where
   whole e = sym e ∙ k .before .loop .inv .1
 
   -- where the check ends at a fault, what was found before or is found from there on decides
-  stopped : (w : Turn) → k .take-turn .result ≡ w → (x : Sought) → x ≡ orElse sought (soughtFrom (here .byte) (here .n) (here .file) (here .place) name)
-      → Whole (toldOf x (judgedAfter here count w))
-  stopped w e x first = ap (λ v. toldOf v (judgedAfter here count w)) first ∙ whole (ask-turn here name sought count w (tells w e))
+  stopped : (w : Turn) → k .take-turn .result ≡ w
+      → Whole (toldOf (orElse sought (soughtFrom (here .byte) (here .n) (here .file) (here .place) name)) (judgedAfter here count w))
+  stopped w e = whole (ask-turn here name sought count w (tells w e))
 
 -- a record: its turn, and its name as it is cut out
 module _ (f : tie.After-found Inv-loop μ-loop) where
@@ -108,16 +108,11 @@ returns c = let k = c .before .before .before in c .tell .ensures ∙ whole k (a
 enum-known-why : tie.Need-enum-known-why Inv-loop μ-loop
 enum-known-why c = search needs
 
-or-later-requires : tie.Need-or-later-requires Inv-loop μ-loop
-or-later-requires c κs = search needs
-
-tell-requires-2 : tie.Need-tell-requires-2 Inv-loop μ-loop
-tell-requires-2 c κs = search needs
+tell-at-fault-requires : tie.Need-tell-at-fault-requires Inv-loop μ-loop
+tell-at-fault-requires c κs = search needs
 
 returns-2 : tie.Need-returns-2 Inv-loop μ-loop
-returns-2 c =
-    let w = c .before .before .before in
-    c .tell2 .ensures ∙ stopped (w .before .before) _ (w .why .given .1) _ (c .before .or-later .ensures)
+returns-2 c = let w = c .before .before in c .tell-at-fault .ensures ∙ stopped (w .before .before) _ (w .why .given .1)
 
 enum-known-found : tie.Need-enum-known-found Inv-loop μ-loop
 enum-known-found c = search needs
@@ -174,8 +169,7 @@ ask-body-spec =
     tell-requires
     returns
     enum-known-why
-    or-later-requires
-    tell-requires-2
+    tell-at-fault-requires
     returns-2
     enum-known-found
     sub-name-of
