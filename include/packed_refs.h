@@ -9,15 +9,20 @@
  *
  * An answer comes back by value. Its first field is the number:
  *
- *    0  done                                              9  a 4,097th edit begins
- *    1  id kind neither 1 (40 hex digits) nor 2 (64)     10  index shorter than the number of edits
- *    2  first byte is # and the header can't be read     11  two edits of one name
- *    3  the looked-up name breaks the name rules         12  new file longer than the output
- *    4  a record can't be read                           13  nothing to do
- *    5  not found                                        14  no record remains: remove the file
- *    6  a name not greater than the record's before it   15  loose content unreadable
- *    7  edit list malformed                              16  symbolic target breaks the name rules
- *    8  edit name empty, too long or breaking the rules  17  lent bytes over 1,073,741,824
+ *    0  done                                             12  new file longer than the output
+ *    1  id kind neither 1 (40 hex digits) nor 2 (64)     13  nothing to do
+ *    2  first byte is # and the header can't be read     14  no record remains: remove the file
+ *    3  the looked-up name breaks the name rules         15  loose content unreadable
+ *    4  lookup: not found, and a probed line unreadable  16  symbolic target breaks the name rules
+ *    5  not found                                        17  lent bytes over 1,073,741,824
+ *    6  a name not greater than the record's before it
+ *    7  edit list malformed                              41  a record's id can't be read
+ *    8  edit name empty, too long or breaking the rules  42  no space behind a record's id
+ *    9  a 4,097th edit begins                            43  a record's line not ended properly
+ *   10  index shorter than the number of edits           44  a record's name breaks the name rules
+ *   11  two edits of one name                            45  a record's ^ line can't be read
+ *
+ * Of 41 to 45, which say what part of a record is bad, the first in that order is given.
  *
  * Every other field is 0 where its comment does not give it beside that number. Every place is counted in the bytes that were lent. */
 #ifndef PACKED_REFS_H
@@ -65,6 +70,7 @@ struct packed_refs_step_reply {
     size_t name_at;     /* of a record */
     size_t name_len;    /* of a record */
     size_t peeled_at;   /* of a record: where its peeled id stands, or 0 where it has none */
+    uint32_t why;       /* of an error: 41 to 45 */
     uint64_t error;     /* of an error: its item number */
     size_t text_len;    /* of an error: the length of its text, which starts at start */
 };
@@ -78,8 +84,8 @@ struct packed_refs_step_reply packed_refs_step_prefix(
 /* ---- The check of a whole file ---- */
 
 struct packed_refs_check_reply {
-    uint32_t number;    /* 0, 1, 2, 4, 6, 17 */
-    size_t place;       /* beside 4 and 6: where the first such item starts */
+    uint32_t number;    /* 0, 1, 2, 6, 17, 41 to 45 */
+    size_t place;       /* beside 41 to 45 and 6: where the first such item starts */
     size_t count;       /* beside 0: how many records */
     size_t text_len;    /* beside 2: the length of the first line, which starts at 0 */
 };
@@ -90,10 +96,11 @@ struct packed_refs_check_reply packed_refs_check(uint32_t kind, const uint8_t *f
 /* The start of the record that a place lies in, by line ends alone. A place beyond the end counts as the end. */
 size_t packed_refs_record_start(const uint8_t *bytes, size_t bytes_len, size_t place);
 
-/* A name in the bytes behind the header. 5 means absent only where the file passed packed_refs_check. */
+/* A name in the bytes behind the header. 5 means absent only where the file passed packed_refs_check. 4 says that no record of the name was met, but a line
+ * that can't be read was: packed_refs_check says which. 41 and 45 say what is bad in the record that has the name. */
 struct packed_refs_lookup_reply {
-    uint32_t number;    /* 0, 1, 3, 4, 5, 17 */
-    size_t place;       /* beside 0: where the record starts, and its id; beside 4: where the record starts that was hit, or 0 where none was */
+    uint32_t number;    /* 0, 1, 3, 4, 5, 17, 41, 45 */
+    size_t place;       /* beside 0: where the record starts, and its id; beside 41 and 45: where the record starts */
     size_t name_at;     /* beside 0 */
     size_t name_len;    /* beside 0 */
     size_t peeled_at;   /* beside 0: where the peeled id stands, or 0 where there is none */
@@ -112,14 +119,17 @@ struct packed_refs_prefix_reply {
 struct packed_refs_prefix_reply packed_refs_prefix(
     uint32_t kind, const uint8_t *body, size_t body_len, const uint8_t *prefix, size_t prefix_len);
 
-/* A name in a whole file, whatever the file: 0 where a record has the name; else 5 only if the file passes the check; else what the check gives. */
+/* A name in a whole file, whatever the file: 0 where a record has the name; else 5 only if the file passes the check; else what the check gives. Beside 0
+ * stands whether the file passes. Where it does not, the name is charted and the record may itself be what the damage made: stop, and call someone. It is
+ * one pass over the whole file in every case. */
 struct packed_refs_ask_reply {
-    uint32_t number;    /* 0, 1, 2, 3, 4, 5, 6, 17 */
-    size_t place;       /* beside 0: where the record starts, and its id; beside 4 and 6: where the first such item starts */
+    uint32_t number;    /* 0, 1, 2, 3, 5, 6, 17, 41 to 45 */
+    size_t place;       /* beside 0: where the record starts, and its id; beside 41 to 45 and 6: where the first such item starts */
     size_t name_at;     /* beside 0 */
     size_t name_len;    /* beside 0 */
     size_t peeled_at;   /* beside 0: where the peeled id stands, or 0 where there is none */
     size_t text_len;    /* beside 2: the length of the first line, which starts at 0 */
+    uint32_t fault;     /* beside 0: the number that the check gives of the whole file: 0 where it passes, else 6 or 41 to 45 */
 };
 struct packed_refs_ask_reply packed_refs_ask(
     uint32_t kind, const uint8_t *file, size_t file_len, const uint8_t *name, size_t name_len);
@@ -155,8 +165,8 @@ struct packed_refs_ask_reply packed_refs_ask(
  * edits' places in name order. The output is written beside 0 only, and not behind the new file's length. Lengths are counts of entries: an index of
  * 4,096 entries always suffices, and so does an output of 46 bytes, the old file's length and twice the list's. */
 struct packed_refs_merge_reply {
-    uint32_t number;    /* 0, 1, 2, 4, 6 to 14, 17 */
-    size_t place;       /* beside 4 and 6: where the item starts in old; beside 7, 8, 9 and 11: where the edit starts in edits */
+    uint32_t number;    /* 0, 1, 2, 6 to 14, 17, 41 to 45 */
+    size_t place;       /* beside 41 to 45 and 6: where the item starts in old; beside 7, 8, 9 and 11: where the edit starts in edits */
     size_t length;      /* beside 0: the new file's length */
     size_t text_len;    /* beside 2: the length of old's first line, which starts at 0 */
 };

@@ -24,6 +24,9 @@ static void same(int line, const char *what, uint64_t got, uint64_t want)
 #define TWOS "2222222222222222222222222222222222222222"
 #define THREES "3333333333333333333333333333333333333333"
 #define FOURS "4444444444444444444444444444444444444444"
+#define NO_ID "xxxxxxxxxxxxxxxxxxxxxxxxxxxxxxxxxxxxxxxx"
+#define LONG_ONES ONES "111111111111111111111111"
+#define LONG_TWOS TWOS "222222222222222222222222"
 #define HEADER "# pack-refs with: peeled fully-peeled sorted \n"
 #define LINE_A ONES " refs/s/a\n"
 #define LINE_C TWOS " refs/s/c\n^" THREES "\n"
@@ -90,13 +93,14 @@ static void step(int line, struct packed_refs_step_reply r, struct packed_refs_s
     same(line, "name_at", r.name_at, want.name_at);
     same(line, "name_len", r.name_len, want.name_len);
     same(line, "peeled_at", r.peeled_at, want.peeled_at);
+    same(line, "why", r.why, want.why);
     same(line, "error", r.error, want.error);
     same(line, "text_len", r.text_len, want.text_len);
 }
 
 static struct packed_refs_step_reply no_item(uint32_t number, size_t next, uint64_t item)
 {
-    struct packed_refs_step_reply r = {0, 0, 0, 0, 0, 0, 0, 0, 0, 0};
+    struct packed_refs_step_reply r = {0, 0, 0, 0, 0, 0, 0, 0, 0, 0, 0};
     r.number = number;
     r.next = next;
     r.item = item;
@@ -105,9 +109,9 @@ static struct packed_refs_step_reply no_item(uint32_t number, size_t next, uint6
 
 static void test_step(void)
 {
-    const struct packed_refs_step_reply a = {0, 1, 46, 96, 3, 87, 8, 0, 0, 0};
-    const struct packed_refs_step_reply c = {0, 1, 96, 188, 4, 137, 8, 147, 0, 0};
-    const struct packed_refs_step_reply x = {0, 2, 1, 3, 8, 0, 0, 0, 7, 1};
+    const struct packed_refs_step_reply a = {0, 1, 46, 96, 3, 87, 8, 0, 0, 0, 0};
+    const struct packed_refs_step_reply c = {0, 1, 96, 188, 4, 137, 8, 147, 0, 0, 0};
+    const struct packed_refs_step_reply x = {0, 2, 1, 3, 8, 0, 0, 0, 41, 7, 1};
 
     step(__LINE__, packed_refs_step(1, BYTES(OLD), 46, 2), a);
     step(__LINE__, packed_refs_step(1, BYTES(OLD), 96, 3), c);
@@ -137,8 +141,9 @@ static void test_check(void)
     check(__LINE__, packed_refs_check(1, BYTES("")), 0, 0, 0, 0);
     check(__LINE__, packed_refs_check(1, BYTES(OLD)), 0, 0, 2, 0);
     check(__LINE__, packed_refs_check(1, BYTES("# other\n")), 2, 0, 0, 7);
-    check(__LINE__, packed_refs_check(2, BYTES(OLD)), 4, 46, 0, 0);
-    check(__LINE__, packed_refs_check(1, BYTES(LINE_A ONES " refs/s.lock/a\n")), 4, 50, 0, 0);
+    check(__LINE__, packed_refs_check(2, BYTES(OLD)), 41, 46, 0, 0);
+    check(__LINE__, packed_refs_check(1, BYTES(LINE_A LONG_ONES " refs/s/b\n")), 42, 50, 0, 0);
+    check(__LINE__, packed_refs_check(1, BYTES(LINE_A ONES " refs/s.lock/a\n")), 44, 50, 0, 0);
     check(__LINE__, packed_refs_check(1, BYTES(LINE_C LINE_A)), 6, 92, 0, 0);
     check(__LINE__, packed_refs_check(0, BYTES(OLD)), 1, 0, 0, 0);
     check(__LINE__, packed_refs_check(1, LARGE), 17, 0, 0, 0);
@@ -165,12 +170,19 @@ static void test_lookup(void)
 {
     lookup(__LINE__, packed_refs_lookup(1, BYTES(LINE_A LINE_C), BYTES("refs/s/a")), 0, 0, 41, 8, 0);
     lookup(__LINE__, packed_refs_lookup(1, BYTES(LINE_A LINE_C), BYTES("refs/s/c")), 0, 50, 91, 8, 101);
-    lookup(__LINE__, packed_refs_lookup(2, BYTES(ONES "111111111111111111111111 refs/s/a\n"), BYTES("refs/s/a")), 0, 0, 65, 8, 0);
+    lookup(__LINE__, packed_refs_lookup(2, BYTES(LONG_ONES " refs/s/a\n"), BYTES("refs/s/a")), 0, 0, 65, 8, 0);
     lookup(__LINE__, packed_refs_lookup(1, BYTES(LINE_A LINE_C), BYTES("refs/s/b")), 5, 0, 0, 0, 0);
     lookup(__LINE__, packed_refs_lookup(1, BYTES(LINE_A LINE_C), BYTES("refs")), 3, 0, 0, 0, 0);
     lookup(__LINE__, packed_refs_lookup(1, BYTES(LINE_A LINE_C), BYTES("refs/s.lock/a")), 3, 0, 0, 0, 0);
-    lookup(__LINE__, packed_refs_lookup(1, BYTES(LINE_A TWOS " refs/s/c\n^zz\n"), BYTES("refs/s/c")), 4, 50, 0, 0, 0);
+    /* a record of the name that is bad, at the very front and behind, and its place */
+    lookup(__LINE__, packed_refs_lookup(1, BYTES(NO_ID " refs/s/c\n"), BYTES("refs/s/c")), 41, 0, 0, 0, 0);
+    lookup(__LINE__, packed_refs_lookup(1, BYTES(LINE_A NO_ID " refs/s/c\n"), BYTES("refs/s/c")), 41, 50, 0, 0, 0);
+    lookup(__LINE__, packed_refs_lookup(1, BYTES(TWOS " refs/s/c\n^zz\n"), BYTES("refs/s/c")), 45, 0, 0, 0, 0);
+    lookup(__LINE__, packed_refs_lookup(1, BYTES(LINE_A TWOS " refs/s/c\n^zz\n"), BYTES("refs/s/c")), 45, 50, 0, 0, 0);
+    lookup(__LINE__, packed_refs_lookup(2, BYTES(LONG_TWOS " refs/s/c\n^" TWOS "\n"), BYTES("refs/s/c")), 45, 0, 0, 0, 0);
+    /* none of the name, and a line that can't be read */
     lookup(__LINE__, packed_refs_lookup(1, BYTES("x\n"), BYTES("refs/s/c")), 4, 0, 0, 0, 0);
+    lookup(__LINE__, packed_refs_lookup(1, BYTES(LINE_A "x\n"), BYTES("refs/s/c")), 4, 0, 0, 0, 0);
     lookup(__LINE__, packed_refs_lookup(3, BYTES(LINE_A), BYTES("refs/s/a")), 1, 0, 0, 0, 0);
     lookup(__LINE__, packed_refs_lookup(1, BYTES(LINE_A), LARGE), 17, 0, 0, 0, 0);
 }
@@ -195,7 +207,8 @@ static void test_prefix(void)
 }
 
 static void ask(
-    int line, struct packed_refs_ask_reply r, uint32_t number, size_t place, size_t name_at, size_t name_len, size_t peeled_at, size_t text_len)
+    int line, struct packed_refs_ask_reply r, uint32_t number, size_t place, size_t name_at, size_t name_len, size_t peeled_at, size_t text_len,
+    uint32_t fault)
 {
     same(line, "number", r.number, number);
     same(line, "place", r.place, place);
@@ -203,20 +216,28 @@ static void ask(
     same(line, "name_len", r.name_len, name_len);
     same(line, "peeled_at", r.peeled_at, peeled_at);
     same(line, "text_len", r.text_len, text_len);
+    same(line, "fault", r.fault, fault);
 }
 
 static void test_ask(void)
 {
-    ask(__LINE__, packed_refs_ask(1, BYTES(OLD), BYTES("refs/s/a")), 0, 46, 87, 8, 0, 0);
-    ask(__LINE__, packed_refs_ask(1, BYTES(OLD), BYTES("refs/s/c")), 0, 96, 137, 8, 147, 0);
-    ask(__LINE__, packed_refs_ask(1, BYTES(OLD), BYTES("refs/s/b")), 5, 0, 0, 0, 0, 0);
-    ask(__LINE__, packed_refs_ask(1, BYTES(OLD), BYTES("refs")), 3, 0, 0, 0, 0, 0);
-    ask(__LINE__, packed_refs_ask(1, BYTES(OLD), BYTES("refs/s.lock/a")), 3, 0, 0, 0, 0, 0);
-    ask(__LINE__, packed_refs_ask(1, BYTES("# other\n"), BYTES("refs/s/a")), 2, 0, 0, 0, 0, 7);
-    ask(__LINE__, packed_refs_ask(1, BYTES(LINE_A "x\n"), BYTES("refs/s/b")), 4, 50, 0, 0, 0, 0);
-    ask(__LINE__, packed_refs_ask(1, BYTES(LINE_C LINE_A), BYTES("refs/s/b")), 6, 92, 0, 0, 0, 0);
-    ask(__LINE__, packed_refs_ask(9, BYTES(OLD), BYTES("refs/s/a")), 1, 0, 0, 0, 0, 0);
-    ask(__LINE__, packed_refs_ask(1, BYTES(OLD), LARGE), 17, 0, 0, 0, 0, 0);
+    ask(__LINE__, packed_refs_ask(1, BYTES(OLD), BYTES("refs/s/a")), 0, 46, 87, 8, 0, 0, 0);
+    ask(__LINE__, packed_refs_ask(1, BYTES(OLD), BYTES("refs/s/c")), 0, 96, 137, 8, 147, 0, 0);
+    ask(__LINE__, packed_refs_ask(1, BYTES(OLD), BYTES("refs/s/b")), 5, 0, 0, 0, 0, 0, 0);
+    ask(__LINE__, packed_refs_ask(1, BYTES(OLD), BYTES("refs")), 3, 0, 0, 0, 0, 0, 0);
+    ask(__LINE__, packed_refs_ask(1, BYTES(OLD), BYTES("refs/s.lock/a")), 3, 0, 0, 0, 0, 0, 0);
+    ask(__LINE__, packed_refs_ask(1, BYTES("# other\n"), BYTES("refs/s/a")), 2, 0, 0, 0, 0, 7, 0);
+    ask(__LINE__, packed_refs_ask(1, BYTES(LINE_A "x\n"), BYTES("refs/s/b")), 41, 50, 0, 0, 0, 0, 0);
+    ask(__LINE__, packed_refs_ask(1, BYTES(LINE_C LINE_A), BYTES("refs/s/b")), 6, 92, 0, 0, 0, 0, 0);
+    ask(__LINE__, packed_refs_ask(9, BYTES(OLD), BYTES("refs/s/a")), 1, 0, 0, 0, 0, 0, 0);
+    ask(__LINE__, packed_refs_ask(1, BYTES(OLD), LARGE), 17, 0, 0, 0, 0, 0, 0);
+    /* charted in a file that does not pass: damage behind the record, before it, both; out of order; twice */
+    ask(__LINE__, packed_refs_ask(1, BYTES(OLD "x\n"), BYTES("refs/s/c")), 0, 96, 137, 8, 147, 0, 41);
+    ask(__LINE__, packed_refs_ask(1, BYTES(ONES " \n" LINE_A), BYTES("refs/s/a")), 0, 42, 83, 8, 0, 0, 44);
+    ask(__LINE__, packed_refs_ask(1, BYTES(ONES "\n" LINE_A "x\n"), BYTES("refs/s/a")), 0, 41, 82, 8, 0, 0, 42);
+    ask(__LINE__, packed_refs_ask(1, BYTES(LINE_C LINE_A), BYTES("refs/s/c")), 0, 0, 41, 8, 51, 0, 6);
+    ask(__LINE__, packed_refs_ask(1, BYTES(LINE_A LINE_A), BYTES("refs/s/a")), 0, 0, 41, 8, 0, 0, 6);
+    ask(__LINE__, packed_refs_ask(2, BYTES(LONG_ONES " refs/s/a\n" LONG_TWOS " refs/s/b"), BYTES("refs/s/a")), 0, 0, 65, 8, 0, 0, 43);
 }
 
 static void merge(int line, struct packed_refs_merge_reply r, uint32_t number, size_t place, size_t length, size_t text_len)
@@ -257,7 +278,8 @@ static void test_merge(void)
     SAME(index[1], 10);
     SAME(index[2], 7);
     merge(__LINE__, packed_refs_merge(1, BYTES("# other\n"), BYTES(UPDATE_B), index, 4, out, 200), 2, 0, 0, 7);
-    merge(__LINE__, packed_refs_merge(1, BYTES(LINE_A "x\n"), BYTES(UPDATE_B), index, 4, out, 200), 4, 50, 0, 0);
+    merge(__LINE__, packed_refs_merge(1, BYTES(LINE_A "x\n"), BYTES(UPDATE_B), index, 4, out, 200), 41, 50, 0, 0);
+    merge(__LINE__, packed_refs_merge(1, BYTES(LINE_A TWOS " refs/s/c\n^"), BYTES(UPDATE_B), index, 4, out, 200), 45, 50, 0, 0);
     merge(__LINE__, packed_refs_merge(1, BYTES(LINE_C LINE_A), BYTES(UPDATE_B), index, 4, out, 200), 6, 92, 0, 0);
     merge(__LINE__, packed_refs_merge(1, BYTES(LINE_A), BYTES(DELETE_C), index, 4, out, 200), 13, 0, 0, 0);
     merge(__LINE__, packed_refs_merge(1, BYTES(LINE_A), BYTES(DELETE_A), index, 4, out, 200), 14, 0, 0, 0);
@@ -273,6 +295,64 @@ static void test_merge(void)
     SAME(memcmp(out, new_file, 146), 0);
     for (i = 146; i < sizeof out; i++)
         SAME(out[i], 'z');
+}
+
+/* Each part of a record that can be bad: the first in the order of the numbers is told, wherever one is, and errors cover the line. */
+static void test_bad_records(void)
+{
+#define BAD(kind, text, number) {kind, number, BYTES(text)}
+    static const struct {
+        uint32_t kind, number;
+        const uint8_t *bytes;
+        size_t len;
+    } bad[] = {
+        BAD(1, "\n", 41),
+        BAD(1, "1111", 41),
+        BAD(1, "?" ONES " refs/s/a\n", 41),
+        BAD(2, ONES " refs/s/a\n", 41),
+        BAD(1, ONES, 42),
+        BAD(1, ONES "\n", 42),
+        BAD(1, ONES "1 refs/s/a\n", 42),
+        BAD(2, LONG_ONES "refs//a\rx\n", 42),
+        /* a space and then no line end is 43, also where the name would be bad */
+        BAD(1, ONES " ", 43),
+        BAD(1, ONES " refs/s/a", 43),
+        BAD(1, ONES " refs//a", 43),
+        BAD(1, ONES " refs//a\rx\n", 43),
+        BAD(2, LONG_ONES " refs/s/a\r", 43),
+        /* empty text behind the space is 44 */
+        BAD(1, ONES " \n", 44),
+        BAD(1, ONES " \r\n", 44),
+        BAD(1, ONES "  refs/s/a\n", 44),
+        BAD(1, ONES " refs//a\n^zz\n", 44),
+        BAD(2, LONG_ONES " refs/s/a.lock\n", 44),
+        /* `^` as the last byte is 45 */
+        BAD(1, ONES " refs/s/a\n^", 45),
+        BAD(1, ONES " refs/s/a\n^" TWOS, 45),
+        BAD(1, ONES " refs/s/a\n^" TWOS "\rx\n", 45),
+        BAD(1, ONES " refs/s/a\r\n^" TWOS "2\n", 45),
+        BAD(2, LONG_ONES " refs/s/a\n^" TWOS "\n", 45),
+    };
+#undef BAD
+    struct packed_refs_step_reply error;
+    const uint8_t *lf;
+    uint32_t index[1];
+    uint8_t out[1];
+    size_t i;
+
+    for (i = 0; i < sizeof bad / sizeof bad[0]; i++) {
+        lf = memchr(bad[i].bytes, '\n', bad[i].len);
+        error = no_item(0, lf == NULL ? bad[i].len : (size_t)(lf - bad[i].bytes) + 1, 8);
+        error.what = 2;
+        error.why = bad[i].number;
+        error.error = 7;
+        error.text_len = error.next - 1;
+        step(__LINE__, packed_refs_step(bad[i].kind, bad[i].bytes, bad[i].len, 0, 7), error);
+        step(__LINE__, packed_refs_step_prefix(bad[i].kind, bad[i].bytes, bad[i].len, BYTES("x"), 0, 7), error);
+        check(__LINE__, packed_refs_check(bad[i].kind, bad[i].bytes, bad[i].len), bad[i].number, 0, 0, 0);
+        ask(__LINE__, packed_refs_ask(bad[i].kind, bad[i].bytes, bad[i].len, BYTES("refs/s/b")), bad[i].number, 0, 0, 0, 0, 0, 0);
+        merge(__LINE__, packed_refs_merge(bad[i].kind, bad[i].bytes, bad[i].len, BYTES(""), index, 1, out, 1), bad[i].number, 0, 0, 0);
+    }
 }
 
 /* 9: a byte behind 4,096 good edits. */
@@ -306,7 +386,7 @@ static void loose(int line, struct packed_refs_loose_reply r, uint32_t number, u
 static void test_loose(void)
 {
     loose(__LINE__, packed_refs_loose(1, BYTES(ONES "\n")), 0, 1, 0, 40);
-    loose(__LINE__, packed_refs_loose(2, BYTES(ONES "111111111111111111111111")), 0, 1, 0, 64);
+    loose(__LINE__, packed_refs_loose(2, BYTES(LONG_ONES)), 0, 1, 0, 64);
     loose(__LINE__, packed_refs_loose(1, BYTES("ref:  refs/s/a\n")), 0, 2, 6, 8);
     loose(__LINE__, packed_refs_loose(1, BYTES(ONES "1\n")), 15, 0, 0, 0);
     loose(__LINE__, packed_refs_loose(1, BYTES("ref: refs\n")), 16, 0, 0, 0);
@@ -333,6 +413,7 @@ int main(void)
     test_prefix();
     test_ask();
     test_merge();
+    test_bad_records();
     test_many_edits();
     test_loose();
     free(zeros);

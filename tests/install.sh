@@ -6,7 +6,7 @@ dir=$(mktemp -d) || exit 1
 trap 'rm -rf "$dir"' EXIT
 failed=0
 fail() { echo "install: $*"; failed=1; }
-night=$PWD/examples/night
+examples=$PWD/examples
 name=refs/sent/ward4/o118
 
 for words in '' -x 'a b'; do
@@ -27,7 +27,7 @@ mkdir "$dir/away"
 cd "$dir/away" || exit 1
 
 # the program: no shell, no compiler, no repository
-said=$(env -i PATH=/nowhere "$prefix/bin/packed-refs" lookup "$night" $name/e3)
+said=$(env -i PATH=/nowhere "$prefix/bin/packed-refs" lookup "$examples/night" $name/e3)
 [ $? -eq 0 ] || fail "the program: $said"
 case $said in "0 charted $name/e3 "*) ;; *) fail "the program said: $said" ;; esac
 
@@ -45,8 +45,8 @@ int main(int argc, char **argv)
     size_t len = fread(bytes, 1, sizeof bytes, file);
     if (ferror(file) || !feof(file))
         return 2;
-    uint32_t number = packed_refs_ask(1, bytes, len, (const uint8_t *)argv[2], strlen(argv[2])).number;
-    return number == 0 ? 0 : number == 5 ? 1 : 2;
+    struct packed_refs_ask_reply said = packed_refs_ask(1, bytes, len, (const uint8_t *)argv[2], strlen(argv[2]));
+    return said.number == 0 && said.fault == 0 ? 0 : said.number == 5 ? 1 : 2;
 }
 END
 if command -v pkg-config >/dev/null; then
@@ -70,24 +70,25 @@ edition = "2021"
 packed-refs = { path = "$prefix/share/packed-refs/rust" }
 END
 cat >sender/src/main.rs <<'END'
-use packed_refs::{Found, IdKind, Opener};
+use packed_refs::{Asked, IdKind, Opener};
 fn main() {
     let args: Vec<String> = std::env::args().collect();
     let table = Opener::new().open(IdKind::Sha1, &args[1]);
     std::process::exit(match table.as_ref().map(|table| table.ask(&args[2])) {
-        Ok(Ok(Found::Charted(_))) => 0,
-        Ok(Ok(Found::Absent)) => 1,
-        _ => 2,
+        Ok(Ok(Asked::Charted(_))) => 0,
+        Ok(Ok(Asked::Absent)) => 1,
+        Ok(Ok(Asked::ChartedInDamagedFile { .. }) | Err(_)) | Err(_) => 2,
     });
 }
 END
 (cd sender && env -u PACKED_REFS_LIB_DIR CARGO_TARGET_DIR="$dir/away/cargo" cargo build --offline --quiet) || fail "Rust does not link"
 for program in ./ask ./cargo/debug/sender; do
-    for case in "0 e3" "1 e4" "2 /"; do
-        read -r status last <<<"$case"
-        $program "$night" "$name/$last"
+    # charted, absent, no name, charted in a damaged file
+    for case in "0 night e3" "1 night e4" "2 night /" "2 damaged e3"; do
+        read -r status file last <<<"$case"
+        $program "$examples/$file" "$name/$last"
         got=$?
-        [ $got -eq "$status" ] || fail "$program $last: wanted $status, got $got"
+        [ $got -eq "$status" ] || fail "$program $file $last: wanted $status, got $got"
     done
 done
 
@@ -106,11 +107,11 @@ for word in $commands $options; do
     bare=${word#-}
     grep -q -e "-[als] ${bare#-} " "$prefix/share/fish/vendor_completions.d/packed-refs.fish" || fail "fish's completion lacks $word"
 done
-for number in 0 2 4 5 17; do
+for number in 0 2 4 5 17 41 45; do
     grep -q "^\.B $number\$" "$man" || fail "the man page lacks number $number"
 done
 numbers=$prefix/share/doc/packed-refs/NUMBERS.md
-[ "$(grep -c '^| [0-9]' "$numbers")" -ge 18 ] && ! grep -q 'crates/' "$numbers" || fail "the page of numbers: $(cat "$numbers")"
+[ "$(grep -c '^| [0-9]' "$numbers")" -ge 23 ] && ! grep -q 'crates/' "$numbers" || fail "the page of numbers: $(cat "$numbers")"
 if command -v groff >/dev/null; then
     said=$(groff -man -Tascii -ww "$man" 2>&1 >/dev/null)
     [ -z "$said" ] || fail "groff says of the man page: $said"

@@ -27,11 +27,11 @@ want 0 "0 charted $name/e3 *" lookup examples/night $name/e3
 want 1 "5 absent $name/e4" lookup examples/night $name/e4
 want 2 '*number 3: *' lookup examples/night refs/sent//e4
 want 0 '0 passed: 28 records' check examples/night
-want 2 '*number 4: *' check examples/damaged
-want 0 "0 charted $name/e3 *" lookup examples/damaged $name/e3
-want 2 '*number 4: *' lookup examples/damaged $name/e2
+want 2 "*number 41: a record's id can't be read; *an id can't be guessed*" check examples/damaged
+want 0 "0 charted $name/e3 *charted, but in a file that does not pass the check: *, line 15: number 41: *" lookup examples/damaged $name/e3
+want 2 '*number 41: *' lookup examples/damaged $name/e2
 want 0 "$name/e1 *" list examples/night $name
-want 2 '4 damaged: item 15, *total: 27 records, 1 damaged, *' report examples/damaged
+want 2 "41 damaged: item 15, byte 891, line 15, a record's id can't be read: *what to do about 41: *total: 27 records, 1 damaged, *" report examples/damaged
 want 0 '# pack-refs with: *' merge examples/night examples/edits
 want 0 'packed-refs: the new file has 28 records' merge examples/night examples/edits -o "$dir/new"
 want 0 "0 charted $name/e4 *" lookup "$dir/new" $name/e4
@@ -47,6 +47,17 @@ want 0 'usage: packed-refs lookup *' help lookup
 want 2 '* is not there*' check "$dir/missing"
 want 64 '*try --help' lookup examples/night
 want 64 '*try --help'
+
+# which part of a record is bad, and what can be done about it
+digits=1111111111111111111111111111111111111111
+printf '%s?refs/s/a\n' $digits >"$dir/space"
+want 2 "*number 42: no space stands behind a record's id; *last night's file*" check "$dir/space"
+printf '%s refs/s/a' $digits >"$dir/cut"
+want 2 "*number 43: a record's line is not ended properly; *last night's file*" check "$dir/cut"
+printf '%s refs/s.lock/a\n' $digits >"$dir/lock"
+want 2 "*number 44: a record's name breaks the name rules; *; its name is 'refs/s.lock/a': a part of it ends with .lock. *" check "$dir/lock"
+printf '%s refs/s/a\n^%.39s\n' $digits $digits >"$dir/peeled"
+want 2 "*number 45: a record's ^ line can't be read; *" check "$dir/peeled"
 
 # closed descriptors, through ./packed-refs too
 ./packed-refs check - <&- 2>"$dir/said"

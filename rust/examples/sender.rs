@@ -1,7 +1,8 @@
-//! A sender's retry: ask the table, then stop, send, or call someone. There is no fourth way.
+//! A sender's retry: ask the table, then stop, send, or call someone. There is no fourth way. A name that is charted in a damaged file is not sent, and
+//! someone is called.
 //!
 //!     cargo run --offline --example sender -- ../examples/night refs/sent/ward4/o118/e3
-use packed_refs::{Escaped, Found, IdKind, Opener};
+use packed_refs::{Asked, Escaped, IdKind, Opener};
 use std::os::unix::ffi::OsStringExt;
 use std::process::ExitCode;
 
@@ -19,11 +20,16 @@ fn main() -> ExitCode {
     };
     let name = name.into_vec();
     match table.ask(&name) {
-        Ok(Found::Charted(record)) => {
+        Ok(Asked::Charted(record)) => {
             println!("stop: {} is charted as {}", Escaped(&name), Escaped(record.id));
             ExitCode::SUCCESS
         }
-        Ok(Found::Absent) => {
+        Ok(Asked::ChartedInDamagedFile { record, fault }) => call_someone(&format!(
+            "{} is charted as {}, but the table does not pass the check, and that record may be what the damage made: {fault}",
+            Escaped(&name),
+            Escaped(record.id)
+        )),
+        Ok(Asked::Absent) => {
             println!("send: {} is absent", Escaped(&name));
             ExitCode::from(1)
         }

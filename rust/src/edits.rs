@@ -149,8 +149,8 @@ impl fmt::Debug for Merged {
 /// Merges edits into an old file, with or without header; empty bytes stand for no file at all. The new file has a header, and its records in
 /// name order, old ids as they were and new ones in lower-case digits.
 ///
-/// An old file that does not pass the check is refused (2, 4, 6), and so is a list with a fault (7, 8, 9, 11); then there is no new file. 12 says that
-/// there is not enough memory for one.
+/// An old file that does not pass the check is refused (2, 6, 41 to 45), and so is a list with a fault (7, 8, 9, 11); then there is no new file. 12 says
+/// that there is not enough memory for one.
 ///
 /// ```
 /// use packed_refs::{merge, Edits, IdKind, Merged};
@@ -170,7 +170,7 @@ impl fmt::Debug for Merged {
 /// last.delete(b"refs/s/a").unwrap();
 /// assert_eq!(merge(old, &last), Ok(Merged::RemoveFile));
 ///
-/// assert_eq!(merge(b"rubbish\n", &edits).unwrap_err().number(), 4);
+/// assert_eq!(merge(b"rubbish\n", &edits).unwrap_err().number(), 41);
 /// ```
 pub fn merge(old: impl AsRef<[u8]>, edits: &Edits) -> Result<Merged, Error> {
     let old = old.as_ref();

@@ -13,9 +13,9 @@ const KEPT: usize = 200;
 /// ```
 /// use packed_refs::{IdKind, Reason, Table};
 /// let error = Table::check(IdKind::Sha1, b"no record\n").unwrap_err();
-/// assert_eq!((error.number(), error.reason()), (4, Reason::BadRecord));
+/// assert_eq!((error.number(), error.reason()), (41, Reason::BadId));
 /// assert_eq!(error.place(), Some(0));
-/// assert!(error.to_string().starts_with("number 4: a record can't be read; it starts at byte 0. Do not send. "));
+/// assert!(error.to_string().starts_with("number 41: a record's id can't be read; the record starts at byte 0. Do not send. "));
 /// ```
 ///
 /// 0 (done), 5 (absent), 13 (nothing to do) and 14 (remove the file) are answers and never come as an error.
@@ -112,33 +112,42 @@ impl Error {
         self.reason.row().meaning
     }
 
+    /// The number, what it means, and where: the sentence before [`Error::what_to_do`].
+    #[must_use]
+    pub fn what_is_wrong(&self) -> String {
+        self.reason.to_string() + &self.whereabouts()
+    }
+
     /// What the sender does, and what a person does about it.
     #[must_use]
     pub fn what_to_do(&self) -> String {
         let row = self.reason.row();
         format!("{} {}", row.sender, row.person)
     }
+
+    /// What is given beside the number, in words.
+    fn whereabouts(&self) -> String {
+        match (self.reason.row().beside, self.place) {
+            (Beside::Record, Some(place)) => format!("; the record starts at byte {place}"),
+            (Beside::Edit, Some(place)) => format!("; that edit begins at byte {place} of the list"),
+            (Beside::FirstLine, Some(place)) => self.first_line(place),
+            (Beside::Nothing, _) | (_, None) => String::new(),
+        }
+    }
+
+    fn first_line(&self, place: usize) -> String {
+        let start = if place > 0 { format!("; it starts at byte {place}") } else { String::new() };
+        let rest = match self.text_len - self.text.len() {
+            0 => String::new(),
+            more => format!(" and {more} bytes more"),
+        };
+        format!("{start}; it reads '{}'{rest}", Escaped(&self.text))
+    }
 }
 
 impl fmt::Display for Error {
     fn fmt(&self, f: &mut fmt::Formatter<'_>) -> fmt::Result {
-        let row = self.reason.row();
-        write!(f, "number {}: {}", row.number, row.meaning)?;
-        match (row.beside, self.place) {
-            (Beside::Record, Some(place)) => write!(f, "; it starts at byte {place}")?,
-            (Beside::Edit, Some(place)) => write!(f, "; that edit begins at byte {place} of the list")?,
-            (Beside::FirstLine, Some(place)) => {
-                if place > 0 {
-                    write!(f, "; it starts at byte {place}")?;
-                }
-                write!(f, "; it reads '{}'", Escaped(&self.text))?;
-                if self.text_len > self.text.len() {
-                    write!(f, " and {} bytes more", self.text_len - self.text.len())?;
-                }
-            }
-            (Beside::Nothing, _) | (_, None) => {}
-        }
-        write!(f, ". {} {}", row.sender, row.person)
+        write!(f, "{}. {}", self.what_is_wrong(), self.what_to_do())
     }
 }
 
@@ -183,7 +192,7 @@ mod tests {
             assert_eq!((error.number(), error.reason()), (row.number, *reason));
             let words = error.to_string();
             assert!(words.starts_with(&format!("number {}: {}", row.number, row.meaning)), "{words}");
-            assert!(words.ends_with(&format!(". {}", error.what_to_do())), "{words}");
+            assert_eq!(words, format!("{}. {}", error.what_is_wrong(), error.what_to_do()));
             assert_eq!(error.place().is_some(), row.beside != Beside::Nothing);
             assert_eq!(words.contains("byte 70"), row.beside != Beside::Nothing, "{words}");
             assert_eq!(error.text(), if row.beside == Beside::FirstLine { &b"# t\x1b"[..] } else { b"" });

@@ -1,6 +1,6 @@
 //! A file read whole or refused, and kept with its check. A file that could not be read must never look like a short one.
 use crate::numbers::Reason;
-use crate::{ask, ask_many, Checked, Error, Escaped, Found, Header, IdKind, Table, LARGEST_INPUT};
+use crate::{ask, ask_many, Asked, Checked, Error, Escaped, Found, Header, IdKind, Table, LARGEST_INPUT};
 use std::fmt;
 use std::fs::{self, File, Metadata};
 use std::io::{self, Read};
@@ -281,13 +281,13 @@ impl TableFile {
     }
 
     /// The lookup that can be trusted on any bytes: [`ask`](crate::ask).
-    pub fn ask(&self, name: impl AsRef<[u8]>) -> Result<Found<'_>, Error> {
+    pub fn ask(&self, name: impl AsRef<[u8]>) -> Result<Asked<'_>, Error> {
         ask(self.kind, &self.bytes, name)
     }
 
     /// The same of many names, in one pass: [`ask_many`](crate::ask_many).
     #[must_use]
-    pub fn ask_many(&self, names: &[impl AsRef<[u8]>]) -> Vec<Result<Found<'_>, Error>> {
+    pub fn ask_many(&self, names: &[impl AsRef<[u8]>]) -> Vec<Result<Asked<'_>, Error>> {
         ask_many(self.kind, &self.bytes, names)
     }
 

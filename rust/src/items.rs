@@ -13,20 +13,24 @@ pub struct Damage<'a> {
     pub place: usize,
     /// The line without its last byte, which is its LF. On a last line without LF that cuts a real byte.
     pub text: &'a [u8],
+    /// Which part of the record is bad, the first of them: numbers 41 to 45.
+    ///
+    /// Beside [`Reason::BadPeeled`] that part is the line below this one, and it is an item of its own: only a record that can be read takes its
+    /// `^` line with it.
+    pub reason: Reason,
 }
 
 impl fmt::Debug for Damage<'_> {
     fn fmt(&self, f: &mut fmt::Formatter<'_>) -> fmt::Result {
         let text = Escaped(self.text);
-        f.debug_struct("Damage").field("item", &self.item).field("place", &self.place).field("text", &text).finish()
+        let mut shown = f.debug_struct("Damage");
+        shown.field("item", &self.item).field("place", &self.place).field("text", &text).field("reason", &self.reason).finish()
     }
 }
 
 impl fmt::Display for Damage<'_> {
     fn fmt(&self, f: &mut fmt::Formatter<'_>) -> fmt::Result {
-        let row = Reason::BadRecord.row();
-        write!(f, "number {}: {}; item {}, it starts at byte {}: ", row.number, row.meaning, self.item, self.place)?;
-        write!(f, "{}", Escaped(self.text))
+        write!(f, "{}; item {}, it starts at byte {}: {}", self.reason, self.item, self.place, Escaped(self.text))
     }
 }
 
@@ -35,7 +39,7 @@ impl std::error::Error for Damage<'_> {}
 /// The items of a file, in order: `Ok` a record, `Err` a damaged line. Damage stays local: reading goes on behind the line.
 ///
 /// ```
-/// use packed_refs::{IdKind, Table};
+/// use packed_refs::{IdKind, Reason, Table};
 /// let file = b"1111111111111111111111111111111111111111 refs/s/a\n\
 ///              rubbish\n\
 ///              2222222222222222222222222222222222222222 refs/s/b\n\
@@ -44,6 +48,7 @@ impl std::error::Error for Damage<'_> {}
 /// assert_eq!(items.next().unwrap().unwrap().name, b"refs/s/a");
 /// let damage = items.next().unwrap().unwrap_err();
 /// assert_eq!((damage.item, damage.place, damage.text), (2, 50, &b"rubbish"[..]));
+/// assert_eq!(damage.reason, Reason::BadId);
 /// let b = items.next().unwrap().unwrap();
 /// assert_eq!(b.peeled, Some(&b"3333333333333333333333333333333333333333"[..]));
 /// assert!(items.next().is_none());
@@ -99,7 +104,10 @@ impl<'a> Iterator for Items<'a> {
         match said.what {
             0 => None,
             1 => Some(Ok(Record::at(self.kind, self.bytes, said.start, said.name_at, said.name_len, said.peeled_at))),
-            2 => Some(Err(Damage { item: said.error, place: said.start, text: &self.bytes[said.start..said.start + said.text_len] })),
+            2 => {
+                let text = &self.bytes[said.start..said.start + said.text_len];
+                Some(Err(Damage { item: said.error, place: said.start, text, reason: Reason::of(said.why) }))
+            }
             other => panic!("packed_refs_step_prefix gave what {other}"),
         }
     }

@@ -2,16 +2,18 @@
 //!
 //! A sender asks the table of references whether a name is in it. Found means charted: stop. Absent means that it may be sent. Everything
 //! else means that the question was not answered: call someone. This crate is written so that **absent and unreadable never look
-//! alike**: only a call that has seen that the whole file passes the check can say *absent*.
+//! alike**: only a call that has seen that the whole file passes the check can say *absent*. And a name that is charted in a file that does not pass
+//! the check is a case of its own: stop, and call someone.
 //!
 //! ```
-//! use packed_refs::{ask, Found, IdKind};
+//! use packed_refs::{ask, Asked, IdKind};
 //!
 //! let file = b"1111111111111111111111111111111111111111 refs/sent/a\n";
 //! match ask(IdKind::Sha1, file, b"refs/sent/a") {
-//!     Ok(Found::Charted(record)) => assert_eq!(record.name, b"refs/sent/a"), // stop
-//!     Ok(Found::Absent) => unreachable!(),                                   // it may be sent
-//!     Err(_) => unreachable!(),                                              // call someone
+//!     Ok(Asked::Charted(record)) => assert_eq!(record.name, b"refs/sent/a"), // stop
+//!     Ok(Asked::ChartedInDamagedFile { .. }) => unreachable!(),              // stop, and call someone
+//!     Ok(Asked::Absent) => unreachable!(),                                   // it may be sent
+//!     Err(_) => unreachable!(),                                              // do not send, and call someone
 //! }
 //! ```
 //!
@@ -72,7 +74,7 @@ pub use lock::{merge_file, Lock, Lost, Rights, SaveError, SaveTrouble, Saved, LO
 pub use loose::{loose, Loose};
 pub use many::ask_many;
 pub use numbers::Reason;
-pub use table::{ask, check_name, header, Checked, Found, Glance, Header, Peeled, Record, Records, Table};
+pub use table::{ask, check_name, header, Asked, Checked, Found, Glance, Header, Peeled, Record, Records, Table};
 
 /// The largest input that is taken: a file, a name, a prefix, an edit list or loose content. One byte more is refused with number 17.
 pub const LARGEST_INPUT: usize = 1_073_741_824;

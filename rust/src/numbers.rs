@@ -5,6 +5,7 @@
 //! docs/NUMBERS.md is the same table for people, and tests/numbers.rs holds the two together.
 //!
 //! The words are read at night. Of each it was asked: if a tired person does exactly this, can a name that was charted become absent?
+use std::fmt;
 
 /// What is given beside a number.
 #[derive(Clone, Copy, Debug, PartialEq, Eq, Hash)]
@@ -50,7 +51,7 @@ pub struct Row {
 macro_rules! numbers {
     (
         answers { $($answer:literal: $done:literal, $go:literal, $then:literal;)* }
-        refusals { $($number:literal $reason:ident $beside:ident: $meaning:literal, $sender:literal, $person:literal;)* }
+        refusals { $($number:literal $reason:ident $beside:ident: $meaning:literal, $sender:literal, $person:expr;)* }
     ) => {
         /// Why a question was not answered: the refusals of docs/NUMBERS.md.
         #[derive(Clone, Copy, Debug, PartialEq, Eq, Hash)]
@@ -104,12 +105,35 @@ macro_rules! numbers {
     };
 }
 
+/// What is lost by a repair that takes the short way; it stands in the advice on every bad record.
+macro_rules! lost {
+    () => {
+        " If a line is deleted, or a whole older file is put in the place of this one, names that are charted become absent and their messages are sent \
+         again."
+    };
+}
+
+/// A line whose end was lost takes the next one with it, and its name.
+macro_rules! joined {
+    () => {
+        " If two lines ran into one there, restore both."
+    };
+}
+
+/// Damage within a line may be the end of a file that was cut.
+macro_rules! cut {
+    () => {
+        " Where the file ends there, all that stood behind was cut off too: restore it as well."
+    };
+}
+
 numbers! {
     // number: what it means, what the sender does, what a person does
     answers {
         0: "done: found, passed, read or merged",
-            "A lookup's: stop, the name is charted.",
-            "Nothing.";
+            "A lookup's: stop, the name is charted. If `ask` gives a fault beside it, also call someone.",
+            "Nothing. Beside a fault of `ask`: the file does not pass the check, and the record may itself be what the damage made. Follow the row \
+             of the fault's number.";
         5: "not found",
             "From `ask`, or from a lookup in a file that passed the check: absent, it may be sent. From a lookup in a file that nobody \
              checked: ask again with `ask`.",
@@ -135,12 +159,9 @@ numbers! {
             "Do not send.",
             "Mend what built the name, and ask again for this message's own name. What is said of another name says nothing about this \
              message.";
-        4 BadRecord Record: "a record can't be read",
+        4 Unsure Nothing: "the search met a line that can't be read, and no record of the name",
             "Do not send.",
-            "Copy the file, then restore the line at that place, its name and its id, from the chart or from another copy. If it is \
-             deleted, or a whole older file is put in its place, names that are charted become absent and their messages are sent again. \
-             A line that is as it was written has a name that breaks a rule, as one with a part that ends with .lock: mend it there and in \
-             the sender.";
+            "Ask again with `ask`, which goes through the whole file, and run the check: it says which line is bad, and what to do about it.";
         6 Unsorted Record: "a name is not greater than the one before it",
             "Do not send.",
             "Two files were mixed, or a line was moved. Copy the file, then put each record, with its ^ line, where its name belongs; of \
@@ -173,5 +194,67 @@ numbers! {
             "Do not send.",
             "See whether the right file was named. A table that has grown so large is not to be split: a name in one part is absent from \
              the other. Call whoever keeps it.";
+        41 BadId Record: "a record's id can't be read",
+            "Do not send.",
+            concat!(
+                "Copy the file, then restore the whole line at that place, its id and its name, from the chart or from another copy of that very \
+                 line: an id can't be guessed. A line that begins with ^ belongs to the record above it; if that is missing, restore it too.",
+                joined!(),
+                cut!(),
+                lost!()
+            );
+        42 NoSpace Record: "no space stands behind a record's id",
+            "Do not send.",
+            concat!(
+                "Copy the file, then restore the line at that place, its id and its name, from last night's file if exactly one line there has that id \
+                 and what is left of the name, else from the chart or from another copy.",
+                joined!(),
+                cut!(),
+                lost!()
+            );
+        43 BadLineEnd Record: "a record's line is not ended properly",
+            "Do not send.",
+            concat!(
+                "Copy the file, then restore the line at that place from last night's file if exactly one line there begins with what is left of it, \
+                 else from the chart or from another copy. Do not just add the line end: a name that was cut short is another name.",
+                joined!(),
+                cut!(),
+                lost!()
+            );
+        44 BadRecordName Record: "a record's name breaks the name rules",
+            "Do not send.",
+            concat!(
+                "Copy the file, then restore the name at that place as the chart or another copy of that line has it. A space or a ^ in it may come from a \
+                 second line. A line that is as it was written has a name that breaks a rule, as one with a part that ends with .lock: mend it there \
+                 and in the sender.",
+                joined!(),
+                lost!()
+            );
+        45 BadPeeled Record: "a record's ^ line can't be read",
+            "Do not send.",
+            concat!(
+                "Copy the file, then restore the ^ line below that record from another copy, or from the tag that the record's id names; the record's \
+                 own line can be read. If a name stands in the ^ line, a record became it or ran into it: restore that one as a line of its own. Do \
+                 not delete the ^ line: without it the name stays charted, but under fully-peeled the record says that its id is no tag.",
+                cut!(),
+                lost!()
+            );
+    }
+}
+
+impl Reason {
+    /// Whether a part of a record can't be read: numbers 41 to 45.
+    #[must_use]
+    pub fn is_bad_record(self) -> bool {
+        use Reason::{BadId, BadLineEnd, BadPeeled, BadRecordName, NoSpace};
+        matches!(self, BadId | NoSpace | BadLineEnd | BadRecordName | BadPeeled)
+    }
+}
+
+/// The number and what it means.
+impl fmt::Display for Reason {
+    fn fmt(&self, f: &mut fmt::Formatter<'_>) -> fmt::Result {
+        let row = self.row();
+        write!(f, "number {}: {}", row.number, row.meaning)
     }
 }

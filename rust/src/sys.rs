@@ -60,6 +60,8 @@ pub struct StepReply {
     pub name_len: usize,
     /// Where a record's peeled id stands; 0 where there is none.
     pub peeled_at: usize,
+    /// Which part of a record is bad, of an error: 41 to 45.
+    pub why: u32,
     /// An error's item number.
     pub error: u64,
     /// The length of an error's text.
@@ -71,9 +73,9 @@ pub struct StepReply {
 #[derive(Clone, Copy, Debug, PartialEq, Eq)]
 #[must_use = "its first field says whether the rest is an answer"]
 pub struct CheckReply {
-    /// 0, 1, 2, 4, 6 or 17.
+    /// 0, 1, 2, 6, 17 or 41 to 45.
     pub number: u32,
-    /// Where the item of 4 or 6 starts.
+    /// Where the item of 6 or of 41 to 45 starts.
     pub place: usize,
     /// How many records.
     pub count: usize,
@@ -86,9 +88,9 @@ pub struct CheckReply {
 #[derive(Clone, Copy, Debug, PartialEq, Eq)]
 #[must_use = "its first field says whether the rest is an answer"]
 pub struct LookupReply {
-    /// 0, 1, 3, 4, 5 or 17.
+    /// 0, 1, 3, 4, 5, 17, 41 or 45.
     pub number: u32,
-    /// Where the record starts, which is where its id stands. Beside 4 only where a record was hit, else 0.
+    /// Where the record starts, which is where its id stands; beside 41 and 45 too.
     pub place: usize,
     /// Where its name stands.
     pub name_at: usize,
@@ -120,9 +122,9 @@ pub struct PrefixReply {
 #[derive(Clone, Copy, Debug, PartialEq, Eq)]
 #[must_use = "its first field says whether the rest is an answer"]
 pub struct AskReply {
-    /// 0, 1, 2, 3, 4, 5, 6 or 17.
+    /// 0, 1, 2, 3, 5, 6, 17 or 41 to 45.
     pub number: u32,
-    /// Where the record starts, which is where its id stands, or the item of 4 or 6.
+    /// Where the record starts, which is where its id stands, or the item of 6 or of 41 to 45.
     pub place: usize,
     /// Where its name stands.
     pub name_at: usize,
@@ -132,6 +134,8 @@ pub struct AskReply {
     pub peeled_at: usize,
     /// The length of number 2's text, which starts at 0.
     pub text_len: usize,
+    /// Beside 0: what the check gives of the whole file. 0 where it passes, else 6 or 41 to 45.
+    pub fault: u32,
 }
 
 /// What [`merge`] gives.
@@ -139,9 +143,9 @@ pub struct AskReply {
 #[derive(Clone, Copy, Debug, PartialEq, Eq)]
 #[must_use = "its first field says whether the rest is an answer"]
 pub struct MergeReply {
-    /// 0, or any of 1, 2, 4, 6 to 14, 17.
+    /// 0, or any of 1, 2, 6 to 14, 17, 41 to 45.
     pub number: u32,
-    /// Where the item of 4 or 6 starts in the old file, or the edit of 7, 8, 9 or 11 in the list.
+    /// Where the item of 6 or of 41 to 45 starts in the old file, or the edit of 7, 8, 9 or 11 in the list.
     pub place: usize,
     /// The new file's length.
     pub length: usize,
@@ -249,7 +253,7 @@ pub fn prefix(kind: u32, body: &[u8], prefix: &[u8]) -> PrefixReply {
     unsafe { c::packed_refs_prefix(kind, body.as_ptr(), body.len(), prefix.as_ptr(), prefix.len()) }
 }
 
-/// The lookup that can be trusted on any bytes.
+/// The lookup that can be trusted on any bytes, with what the check gives of them.
 pub fn ask(kind: u32, file: &[u8], name: &[u8]) -> AskReply {
     unsafe { c::packed_refs_ask(kind, file.as_ptr(), file.len(), name.as_ptr(), name.len()) }
 }

@@ -1,6 +1,5 @@
 //! A table of references in lent bytes: header, check, lookup, listing.
 use crate::error::Given;
-use crate::numbers::Beside;
 use crate::{sys, Error, Escaped, IdKind, Items, Reason};
 use std::fmt;
 
@@ -38,27 +37,65 @@ impl fmt::Debug for Record<'_> {
     }
 }
 
-/// The answer of a lookup that can be trusted.
+/// The answer of a lookup in a file that passed the check.
 #[derive(Clone, Copy, Debug, PartialEq, Eq, Hash)]
 #[must_use = "charted means stop, and absent means that it may be sent"]
 pub enum Found<'a> {
     /// A record of the file has the name: stop.
     Charted(Record<'a>),
+    /// No record has the name: it may be sent.
+    Absent,
+}
+
+/// The answer of a lookup in a file that nobody checked before, and that was gone through as a whole: [`ask`].
+///
+/// There are three cases, and a `match` has to name each:
+///
+/// ```compile_fail
+/// # use packed_refs::{ask, Asked, IdKind};
+/// match ask(IdKind::Sha1, b"", b"refs/s/a").unwrap() {
+///     Asked::Charted(_) => {}
+///     Asked::Absent => {}
+/// }
+/// ```
+#[derive(Clone, Copy, Debug, PartialEq, Eq, Hash)]
+#[must_use = "charted means stop, in a damaged file also call someone, and absent means that it may be sent"]
+pub enum Asked<'a> {
+    /// A record has the name, and the whole file passes the check: stop.
+    Charted(Record<'a>),
+    /// A record has the name, but the file does not pass the check: stop, and call someone. Whether the record is as it was written is not known: it may
+    /// itself be what the damage made.
+    ChartedInDamagedFile {
+        /// The first record that has the name.
+        record: Record<'a>,
+        /// Why the file does not pass. [`Table::check`] gives the same, with its place.
+        fault: Reason,
+    },
     /// The whole file passes the check, and no record has the name: it may be sent.
     Absent,
+}
+
+/// What a file that passed the check says.
+impl<'a> From<Found<'a>> for Asked<'a> {
+    fn from(found: Found<'a>) -> Asked<'a> {
+        match found {
+            Found::Charted(record) => Asked::Charted(record),
+            Found::Absent => Asked::Absent,
+        }
+    }
 }
 
 /// The answer of a lookup in bytes that nobody checked.
 #[derive(Clone, Debug, PartialEq, Eq)]
 #[must_use]
 pub enum Glance<'a> {
-    /// A record of the file has the name. That is worth as much as from a checked file: the record stands there.
+    /// A record has the name, and it stands there. Whether the rest of the file passes the check was not looked at; [`ask`] says that too.
     Charted(Record<'a>),
     /// The search met no record of the name. **This is not worth *absent***: a damaged line can lead the search astray, past a record
     /// that is there. Ask again with [`ask`].
     NotFound,
-    /// Something that the search looked at can't be read. The place is that of the record if it was hit, and none is told if it was not.
-    /// (A record that was hit at the very front of the bytes behind the header is told without its place too.)
+    /// Something that the search looked at can't be read. It was the record of the name itself (numbers 41 and 45, with its place), or some line on the
+    /// way to a name that was not met (4, without a place: [`Table::check`] says which line is bad).
     Unreadable(Error),
 }
 
@@ -129,32 +166,36 @@ pub fn check_name(name: impl AsRef<[u8]>) -> Result<(), Error> {
     }
 }
 
-/// The lookup that can be trusted on any bytes. It is lent the whole file and goes through it once.
+/// The lookup that can be trusted on any bytes. It is lent the whole file and goes through it once, to its end in every case.
 ///
-/// *Charted* is said as soon as a good record has the name, even if the file is damaged elsewhere. *Absent* is said only if the whole file
-/// passes the check. Everything else is an error: 2, 4 or 6 for what the check finds, 3 for the name, 17 for the size. Then do not send.
+/// *Charted* is said if a good record has the name, even if the file is damaged elsewhere; then that is said too. *Absent* is said only if the whole file
+/// passes the check. Everything else is an error: 2, 6 or 41 to 45 for what the check finds, 3 for the name, 17 for the size. Then do not send.
 ///
 /// ```
-/// use packed_refs::{ask, Found, IdKind};
+/// use packed_refs::{ask, Asked, IdKind, Reason};
 /// let file = b"1111111111111111111111111111111111111111 refs/s/a\nrubbish\n";
 ///
-/// // what stands in the file is charted, whatever else stands there
-/// assert!(matches!(ask(IdKind::Sha1, file, b"refs/s/a"), Ok(Found::Charted(_))));
+/// // what stands in the file is charted, whatever else stands there; but someone has to see to the file
+/// let Ok(Asked::ChartedInDamagedFile { record, fault }) = ask(IdKind::Sha1, file, b"refs/s/a") else { panic!() };
+/// assert_eq!((record.name, fault), (&b"refs/s/a"[..], Reason::BadId));
 /// // what might have stood on the damaged line is never absent
 /// let error = ask(IdKind::Sha1, file, b"refs/s/b").unwrap_err();
-/// assert_eq!((error.number(), error.place()), (4, Some(50)));
+/// assert_eq!((error.number(), error.place()), (41, Some(50)));
 /// // without the damaged line it is
-/// assert_eq!(ask(IdKind::Sha1, &file[..50], b"refs/s/b"), Ok(Found::Absent));
+/// assert!(matches!(ask(IdKind::Sha1, &file[..50], b"refs/s/a"), Ok(Asked::Charted(_))));
+/// assert_eq!(ask(IdKind::Sha1, &file[..50], b"refs/s/b"), Ok(Asked::Absent));
 /// ```
 ///
 /// Of many names [`ask_many`](crate::ask_many) says the same in one pass.
-pub fn ask<'a>(kind: IdKind, file: &'a (impl AsRef<[u8]> + ?Sized), name: impl AsRef<[u8]>) -> Result<Found<'a>, Error> {
+pub fn ask<'a>(kind: IdKind, file: &'a (impl AsRef<[u8]> + ?Sized), name: impl AsRef<[u8]>) -> Result<Asked<'a>, Error> {
     let file = file.as_ref();
     let said = sys::ask(kind.number(), file, name.as_ref());
-    match said.number {
-        0 => Ok(Found::Charted(Record::at(kind, file, said.place, said.name_at, said.name_len, said.peeled_at))),
-        5 => Ok(Found::Absent),
-        number => Err(refusal(number, file, said.place, said.text_len)),
+    let record = || Record::at(kind, file, said.place, said.name_at, said.name_len, said.peeled_at);
+    match (said.number, said.fault) {
+        (0, 0) => Ok(Asked::Charted(record())),
+        (0, fault) => Ok(Asked::ChartedInDamagedFile { record: record(), fault: Reason::of(fault) }),
+        (5, _) => Ok(Asked::Absent),
+        (number, _) => Err(refusal(number, file, said.place, said.text_len)),
     }
 }
 
@@ -228,13 +269,14 @@ impl<'a> Table<'a> {
     /// [`Glance::NotFound`] is not worth *absent*. Here is why: the search goes by the middle, and one damaged line can send it the wrong way.
     ///
     /// ```
-    /// use packed_refs::{ask, Found, Glance, IdKind, Table};
+    /// use packed_refs::{ask, Asked, Glance, IdKind, Reason, Table};
     /// // refs/s/b stands in the file, but the line before it was torn out of place
     /// let file = b"1111111111111111111111111111111111111111 refs/s/z\n\
     ///              2222222222222222222222222222222222222222 refs/s/b\n";
     /// let table = Table::new(IdKind::Sha1, file);
     /// assert_eq!(table.glance(b"refs/s/z"), Ok(Glance::NotFound));
-    /// assert!(matches!(ask(IdKind::Sha1, file, b"refs/s/z"), Ok(Found::Charted(_))));
+    /// let Ok(Asked::ChartedInDamagedFile { fault, .. }) = ask(IdKind::Sha1, file, b"refs/s/z") else { panic!() };
+    /// assert_eq!(fault, Reason::Unsorted);
     /// ```
     pub fn glance(&self, name: impl AsRef<[u8]>) -> Result<Glance<'a>, Error> {
         self.glance_behind(header(self.bytes)?.body, name.as_ref())
@@ -248,10 +290,10 @@ impl<'a> Table<'a> {
             0 => Ok(Glance::Charted(Record::at(self.kind, records, said.place, said.name_at, said.name_len, said.peeled_at).behind(body))),
             5 => Ok(Glance::NotFound),
             number => {
-                let error = lookup_refusal(number, said.place, body);
-                match error.reason().row().beside {
-                    Beside::Record => Ok(Glance::Unreadable(error)),
-                    Beside::FirstLine | Beside::Edit | Beside::Nothing => Err(error),
+                let error = Error::at(number, body + said.place);
+                match error.reason() {
+                    reason if reason == Reason::Unsure || reason.is_bad_record() => Ok(Glance::Unreadable(error)),
+                    _ => Err(error),
                 }
             }
         }
@@ -389,25 +431,4 @@ impl std::iter::FusedIterator for Records<'_> {}
 /// The refusal of a call that was lent a whole file: its place, and its text, which stands at the front.
 pub(crate) fn refusal(number: u32, file: &[u8], place: usize, text_len: usize) -> Error {
     Error::told(number, Given { place: Some(place), text: &file[..text_len] })
-}
-
-/// The refusal of a lookup in the bytes behind a header that ends at `body`. Beside number 4, and beside it alone, a place of 0 may say that no record was
-/// hit: then none is told. Whatever other number gives a place, it is kept.
-fn lookup_refusal(number: u32, place: usize, body: usize) -> Error {
-    let is_told = Reason::of(number) != Reason::BadRecord || place != 0;
-    Error::told(number, Given { place: is_told.then_some(place + body), text: b"" })
-}
-
-#[cfg(test)]
-mod tests {
-    use super::*;
-
-    #[test]
-    fn a_hits_place_is_kept_whatever_its_number() {
-        let place = |number, place| lookup_refusal(number, place, 46).place();
-        assert_eq!((place(4, 50), place(4, 0)), (Some(96), None));
-        // no lookup gives 6 today; it stands for a number of a record that is new
-        assert_eq!((place(6, 50), place(6, 0)), (Some(96), Some(46)));
-        assert_eq!((place(3, 0), place(17, 0)), (None, None));
-    }
 }

@@ -28,8 +28,8 @@ fn places_are_counted_in_the_whole_file() {
     let bytes = file(&[header.into(), format!("{} refs/s/a\n", id('1')), format!("{} refs/s/b\n", id('2'))]);
     let table = Table::check(KIND, &bytes).unwrap();
     let expected = header.len() + 50;
-    for answer in [table.find(b"refs/s/b"), ask(KIND, &bytes, b"refs/s/b")] {
-        let Ok(Found::Charted(record)) = answer else { panic!() };
+    for answer in [table.find(b"refs/s/b").map(Asked::from), ask(KIND, &bytes, b"refs/s/b")] {
+        let Ok(Asked::Charted(record)) = answer else { panic!() };
         assert_eq!(record.place, expected);
         assert_eq!(&bytes[record.place..record.place + 40], id('2').as_bytes());
     }
@@ -43,30 +43,34 @@ fn what_cannot_be_read_is_never_absent() {
     let a = format!("{} refs/s/a\n", id('1'));
     let c = format!("{} refs/s/c\n", id('3'));
     for (damaged, number) in [
-        (format!("{} refs/s/b\n", &id('2')[1..]), 4),   // a digit short
-        (format!("{} refs/s/b\n", id('g')), 4),         // no digits
-        (format!("{}  refs/s/b\n", id('2')), 4),        // two spaces
-        (format!("{} refs/s/b\rx\n", id('2')), 4),      // a bare CR
-        (format!("{} refs/s/b\n^zz\n", id('2')), 4),    // a bad peeled line
-        (format!("{} refs/s/..\n", id('2')), 4),        // a bad name
-        ("\n".to_string(), 4),                          // an empty line
-        ("# pack-refs with: sorted \n".to_string(), 4), // a second header
-        (format!("{} refs/r/a\n", id('2')), 6),         // out of order
-        (format!("{} refs/s/a\n", id('2')), 6),         // twice
+        (format!("{} refs/s/b\n", &id('2')[1..]), 41),   // a digit short
+        (format!("{} refs/s/b\n", id('g')), 41),         // no digits
+        (format!("{}0 refs/s/b\n", id('2')), 42),        // a digit too many
+        (format!("{}  refs/s/b\n", id('2')), 44),        // two spaces
+        (format!("{} refs/s/b\rx\n", id('2')), 43),      // a bare CR
+        (format!("{} refs/s/b\n^zz\n", id('2')), 45),    // a bad peeled line
+        (format!("{} refs/s/..\n", id('2')), 44),        // a bad name
+        ("\n".to_string(), 41),                          // an empty line
+        ("# pack-refs with: sorted \n".to_string(), 41), // a second header
+        (format!("{} refs/r/a\n", id('2')), 6),          // out of order
+        (format!("{} refs/s/a\n", id('2')), 6),          // twice
     ] {
         let bytes = file(&[a.clone(), damaged.clone(), c.clone()]);
         assert_eq!(Table::check(KIND, &bytes).unwrap_err().number(), number, "{damaged:?}");
         let error = ask(KIND, &bytes, b"refs/s/b").unwrap_err();
         assert_eq!((error.number(), error.place()), (number, Some(50)), "{damaged:?}");
+        // what stands before the damage and behind it is charted, and that the file is damaged is said beside it
         for name in ["refs/s/a", "refs/s/c"] {
-            assert!(matches!(ask(KIND, &bytes, name.as_bytes()), Ok(Found::Charted(_))), "{damaged:?}");
+            let Ok(Asked::ChartedInDamagedFile { record, fault }) = ask(KIND, &bytes, name.as_bytes()) else { panic!("{damaged:?}") };
+            assert_eq!((record.name, fault.number()), (name.as_bytes(), number), "{damaged:?}");
         }
     }
     // a file cut short
     let bytes = file(&[a, c]);
     for end in 1..bytes.len() {
         if end != 50 {
-            assert_eq!(ask(KIND, &bytes[..end], b"refs/s/z").unwrap_err().number(), 4, "cut at {end}");
+            let part = [41, 42, 43][usize::from(end % 50 >= 40) + usize::from(end % 50 > 40)];
+            assert_eq!(ask(KIND, &bytes[..end], b"refs/s/z").unwrap_err().number(), part, "cut at {end}");
         }
     }
 }
@@ -96,7 +100,7 @@ fn lock_names() {
             merge(&night, &Edits::from_bytes(KIND, delete)).err(),
             loose(KIND, target.as_bytes()).err(),
         ];
-        let numbers = if is_valid { [0; 6] } else { [3, 3, 3, 4, 8, 16] };
+        let numbers = if is_valid { [0; 6] } else { [3, 3, 3, 44, 8, 16] };
         assert_eq!(said.map(|error| error.map_or(0, |error| error.number())), numbers, "{name}");
     }
 }
@@ -107,11 +111,17 @@ fn glances() {
     let table = Table::new(KIND, &bytes);
     assert!(matches!(table.glance(b"refs/s/a"), Ok(Glance::Charted(_))));
     let Ok(Glance::Unreadable(hit)) = table.glance(b"refs/s/b") else { panic!() };
-    assert_eq!((hit.number(), hit.place()), (4, Some(50)));
+    assert_eq!((hit.number(), hit.place()), (41, Some(50)));
     assert_eq!(table.glance(b"refs/s/c"), Ok(Glance::NotFound));
     assert_eq!(table.glance(b"refs").unwrap_err().number(), 3);
     let Ok(Glance::Unreadable(miss)) = Table::new(KIND, b"rubbish\n").glance(b"refs/s/a") else { panic!() };
     assert_eq!((miss.number(), miss.place()), (4, None));
+    // a hit at the very front has its place as any other, in the whole file
+    for header in ["", "# pack-refs with: \n"] {
+        let front = file(&[header.into(), format!("{} refs/s/a\n", id('?'))]);
+        let Ok(Glance::Unreadable(hit)) = Table::new(KIND, &front).glance(b"refs/s/a") else { panic!() };
+        assert_eq!((hit.number(), hit.place()), (41, Some(header.len())));
+    }
     assert_eq!(Table::new(KIND, b"#\n").glance(b"refs/s/a").unwrap_err().number(), 2);
 }
 
@@ -127,7 +137,7 @@ fn errors_say_what_to_do() {
         loose(KIND, b"").unwrap_err(),
         loose(KIND, b"ref: x").unwrap_err(),
     ];
-    for (error, number) in errors.iter().zip([2, 3, 4, 7, 8, 11, 15, 16]) {
+    for (error, number) in errors.iter().zip([2, 3, 41, 7, 8, 11, 15, 16]) {
         assert_eq!(error.number(), number);
         let words = error.to_string();
         assert!(words.starts_with(&format!("number {number}: ")), "{words}");
@@ -173,9 +183,9 @@ fn sha256() {
     let mut edits = Edits::new(IdKind::Sha256);
     edits.update_peeled(b"refs/s/a", a.as_bytes(), b.as_bytes()).unwrap();
     let Ok(Merged::New(new)) = merge(b"", &edits) else { panic!() };
-    let Ok(Found::Charted(record)) = ask(IdKind::Sha256, &new, b"refs/s/a") else { panic!() };
+    let Ok(Asked::Charted(record)) = ask(IdKind::Sha256, &new, b"refs/s/a") else { panic!() };
     assert_eq!((record.id, record.peeled), (a.as_bytes(), Some(b.as_bytes())));
-    assert_eq!(Table::check(KIND, &new).unwrap_err().number(), 4);
+    assert_eq!(Table::check(KIND, &new).unwrap_err().number(), 42);
     assert_eq!(edits.update(b"refs/s/b", id('1').as_bytes()).unwrap_err().number(), 7);
 }
 
@@ -322,7 +332,7 @@ fn lookups_agree_on_good_and_on_damaged_files() {
         match Table::check(KIND, &bytes) {
             Ok(checked) => {
                 passed += 1;
-                assert_eq!(told, checked.find(name.as_bytes()));
+                assert_eq!(told, checked.find(name.as_bytes()).map(Asked::from));
                 let all: Vec<_> = items.clone().unwrap().map(Result::unwrap).collect();
                 assert_eq!(checked.records().collect::<Vec<_>>(), all);
                 assert_eq!(checked.len(), all.len());
@@ -330,15 +340,17 @@ fn lookups_agree_on_good_and_on_damaged_files() {
                 let begins = all.iter().filter(|record| record.name.starts_with(prefix)).copied();
                 assert_eq!(checked.with_prefix(prefix).unwrap().collect::<Vec<_>>(), begins.collect::<Vec<_>>());
                 match told.unwrap() {
-                    Found::Charted(record) => assert_eq!(Some(record), named),
-                    Found::Absent => assert_eq!(None, named),
+                    Asked::Charted(record) => assert_eq!(Some(record), named),
+                    Asked::ChartedInDamagedFile { .. } => panic!("a fault in a file that passes the check"),
+                    Asked::Absent => assert_eq!(None, named),
                 }
             }
             Err(error) => {
                 refused += 1;
                 match told {
-                    Ok(Found::Charted(record)) => assert_eq!(Some(record), named),
-                    Ok(Found::Absent) => panic!("absent in a file that fails the check"),
+                    Ok(Asked::Charted(_)) => panic!("no fault in a file that fails the check"),
+                    Ok(Asked::ChartedInDamagedFile { record, fault }) => assert_eq!((Some(record), fault), (named, error.reason())),
+                    Ok(Asked::Absent) => panic!("absent in a file that fails the check"),
                     Err(other) => {
                         assert_eq!(error, other);
                         assert_eq!(None, named);
@@ -388,7 +400,7 @@ fn many_names_are_told_what_each_is_told() {
         let each: Vec<_> = names.iter().map(|name| ask(KIND, &bytes, name)).collect();
         assert_eq!(ask_many(KIND, &bytes, &names), each);
         assert_eq!(TableFile::new(KIND, bytes.clone()).ask_many(&names), each);
-        charted += each.iter().filter(|told| matches!(told, Ok(Found::Charted(_)))).count();
+        charted += each.iter().filter(|told| matches!(told, Ok(Asked::Charted(_) | Asked::ChartedInDamagedFile { .. }))).count();
         match Table::check(KIND, &bytes) {
             Ok(_) => passed += 1,
             Err(_) => refused += 1,

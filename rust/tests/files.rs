@@ -41,7 +41,7 @@ fn what_cannot_be_opened_says_why() {
     assert!(open(&dir.path("missing")).to_string().contains("missing is not there. Do not send."));
     assert!(open(&dir.path("")).to_string().contains(" can't be read: "));
     let bad = open(&dir.file("bad", b"x\n"));
-    assert!(matches!(bad.trouble(), OpenTrouble::Refused(error) if error.number() == 4), "{bad}");
+    assert!(matches!(bad.trouble(), OpenTrouble::Refused(error) if error.number() == 41), "{bad}");
     // over the limit, told by the length alone
     let large = File::create(dir.path("large")).unwrap();
     for size in [LARGEST_INPUT as u64 + 1, 100 * LARGEST_INPUT as u64] {
@@ -307,7 +307,7 @@ fn merges_of_several_at_once_lose_nothing() {
     assert_eq!(merge_file(&path, &edits, Opener::new(), Rights::Keep).unwrap(), Saved::Removed);
     assert!(!dir.has("table") && !dir.has("table.lock"));
     // what is damaged, or has lost all its bytes, is left alone
-    for (bytes, words) in [(&b"x\n"[..], "is as it was: number 4: "), (b"", "has zero bytes")] {
+    for (bytes, words) in [(&b"x\n"[..], "is as it was: number 41: "), (b"", "has zero bytes")] {
         dir.file("table", bytes);
         let error = merge_file(&path, &edits, Opener::new(), Rights::Keep).unwrap_err();
         assert!(error.to_string().contains(words), "{error}");

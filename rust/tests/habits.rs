@@ -232,8 +232,10 @@ fn quiet_says_it_by_the_status() {
     run(&["report", DAMAGED, "-q"]).is(2, "", "");
     run(&["loose", &loose, "-q"]).is(0, "", "");
     // why there is no answer is still said, and what is to be written is written
-    run(&["lookup", DAMAGED, E4, "-q"]).is(2, "", "number 4: ");
-    run(&["check", DAMAGED, "-q"]).is(2, "", "number 4: ");
+    run(&["lookup", DAMAGED, E4, "-q"]).is(2, "", "number 41: ");
+    run(&["check", DAMAGED, "-q"]).is(2, "", "number 41: ");
+    // and what the status does not say
+    run(&["lookup", DAMAGED, E3, "-q"]).is(0, "", "charted, but in a file that does not pass the check: ");
     let listed = run(&["list", NIGHT]);
     run(&["list", NIGHT, "-q"]).is(0, &listed.out, "");
     let merged = run(&["merge", NIGHT, EDITS]);
@@ -266,10 +268,21 @@ fn lines_of_json() {
     );
     in_dir(&["list", "table", "--json"]).is(0, &records, "");
     let report = "{\"answer\":\"no header\",\"number\":2,\"item\":1,\"line\":1,\"byte\":0,\"text\":\"#\\\"\",\"length\":2}\n\
-                  {\"answer\":\"damaged\",\"number\":4,\"item\":3,\"line\":3,\"byte\":53,\"text_hex\":\"ff1b\",\"length\":2}\n\
+                  {\"answer\":\"damaged\",\"number\":41,\"item\":3,\"line\":3,\"byte\":53,\"text_hex\":\"ff1b\",\"length\":2}\n\
                   {\"answer\":\"out of order\",\"number\":6,\"item\":4,\"line\":4,\"byte\":56,\"name\":\"refs/s/a\"}\n\
                   {\"answer\":\"total\",\"status\":2,\"file\":\"wild\",\"records\":2,\"damaged\":2,\"unsorted\":1,\"bytes\":106}\n";
     in_dir(&["report", "wild", "--json"]).is(2, report, "");
+    // charted in a file that does not pass the check, and a name that breaks a rule
+    dir.file("lock", format!("{}{}", record('1', "refs/s/a"), record('2', "refs/s/b.lock")).as_bytes());
+    let charted =
+        format!("{{\"answer\":\"charted\",\"status\":0,\"number\":0,\"name\":\"refs/s/a\",\"id\":\"{one}\",\"byte\":0,\"fault\":44}}\n");
+    in_dir(&["lookup", "lock", "refs/s/a", "--json"]).is(0, &charted, "packed-refs: charted, but in a file that does not pass the check: ");
+    let damaged = format!(
+        "{{\"answer\":\"damaged\",\"number\":44,\"item\":2,\"line\":2,\"byte\":50,\"text\":\"{two} refs/s/b.lock\",\"length\":54,\
+         \"rule\":\"a part of it ends with .lock\"}}\n\
+         {{\"answer\":\"total\",\"status\":2,\"file\":\"lock\",\"records\":1,\"damaged\":1,\"unsorted\":0,\"bytes\":105}}\n"
+    );
+    in_dir(&["report", "lock", "--json"]).is(2, &damaged, "");
     let written = "{\"answer\":\"written\",\"status\":0,\"number\":0,\"file\":\"new\",\"records\":3}\n";
     in_dir(&["merge", "table", "edits", "-o", "new", "--json"]).is(0, written, "the new file has 3 records");
     dir.file("edits", b"delete refs/s/x\n");
@@ -323,6 +336,6 @@ fn lines_of_json() {
         "{\"answer\":\"none\",\"status\":2,\"number\":8,\"file\":\"edits\",\"line\":2,\"message\":\"",
     );
     let piped = common::run(&["check", "-", "--json"], b"x\n");
-    assert!(piped.out.starts_with("{\"answer\":\"none\",\"status\":2,\"number\":4,\"file\":\"-\",\"line\":1,\"byte\":0,"), "{piped:?}");
-    assert!(piped.err.starts_with("packed-refs: standard input, line 1: number 4: "), "{piped:?}");
+    assert!(piped.out.starts_with("{\"answer\":\"none\",\"status\":2,\"number\":41,\"file\":\"-\",\"line\":1,\"byte\":0,"), "{piped:?}");
+    assert!(piped.err.starts_with("packed-refs: standard input, line 1: number 41: "), "{piped:?}");
 }

@@ -15,11 +15,11 @@ fn c_and_rust_lay_out_answers_alike() {
     let layouts = layouts! {
         "header" HeaderReply { number, peeled, sorted, place, text_len }
         "start" StartReply { number, place, item, text_len }
-        "step" StepReply { number, what, start, next, item, name_at, name_len, peeled_at, error, text_len }
+        "step" StepReply { number, what, start, next, item, name_at, name_len, peeled_at, why, error, text_len }
         "check" CheckReply { number, place, count, text_len }
         "lookup" LookupReply { number, place, name_at, name_len, peeled_at }
         "prefix" PrefixReply { number, place, item, text_at, text_len }
-        "ask" AskReply { number, place, name_at, name_len, peeled_at, text_len }
+        "ask" AskReply { number, place, name_at, name_len, peeled_at, text_len, fault }
         "merge" MergeReply { number, place, length, text_len }
         "loose" LooseReply { number, what, at, len }
     };

@@ -238,9 +238,11 @@ fn many_names_are_asked_of_a_damaged_file_in_one_pass() {
     let damaged = dir.file("damaged", format!("{lines}rubbish\n").as_bytes());
     let names = dir.file("names", (0..4_000).map(|i| format!("refs/s/{:07}\n", 98_000 + i)).collect::<String>().as_bytes());
     let ran = shell("ulimit -c 0 -t 6; exec \"$@\"", &["lookup", &damaged, "--names", &names]);
-    assert_eq!((ran.status, ran.out.lines().count(), ran.err.lines().count()), (2, 2_000, 2_000));
+    // that what is charted stands in a damaged file is said once, and not for each name
+    assert_eq!((ran.status, ran.out.lines().count(), ran.err.lines().count()), (2, 2_000, 2_001));
     assert!(ran.out.lines().all(|line| line.starts_with("0 charted ")));
-    assert!(ran.err.lines().all(|line| line.contains(", line 100001: no answer for 'refs/s/")));
+    assert!(ran.err.lines().next().unwrap().starts_with("packed-refs: charted, but in a file that does not pass the check: "));
+    assert!(ran.err.lines().skip(1).all(|line| line.contains(", line 100001: no answer for 'refs/s/")));
 }
 
 /// The records say how long their ids are.
@@ -256,13 +258,16 @@ fn the_kind_is_that_of_the_records() {
     run(&["report", &long]).is(0, "total: 1 record, 0 damaged, 0 out of order, 120 bytes\n", "");
     // damaged elsewhere it has that kind too
     let hurt = dir.file("hurt", format!("{HEADER}{}{}", long_record('?', "refs/a/a"), long_record('1', name)).as_bytes());
-    run(&["lookup", &hurt, name]).is(0, &format!("0 charted {name} {} byte 120\n", long_id('1')), "");
-    run(&["lookup", &hurt, "refs/a/a"]).is(2, "", "line 2: no answer for 'refs/a/a': number 4: ");
-    run(&["report", &hurt]).is(
-        2,
-        &format!("4 damaged: item 2, byte 46, line 2: {} refs/a/a\ntotal: 1 record, 1 damaged, 0 out of order, 194 bytes\n", long_id('?')),
-        "",
+    run(&["lookup", &hurt, name]).is(
+        0,
+        &format!("0 charted {name} {} byte 120\n", long_id('1')),
+        "charted, but in a file that does not pass the check: ",
     );
+    run(&["lookup", &hurt, "refs/a/a"]).is(2, "", "line 2: no answer for 'refs/a/a': number 41: ");
+    let report = run(&["report", &hurt]);
+    let line = format!("41 damaged: item 2, byte 46, line 2, a record's id can't be read: {} refs/a/a\n", long_id('?'));
+    assert!(report.status == 2 && report.out.starts_with(&line), "{report:?}");
+    assert!(report.out.ends_with("\ntotal: 1 record, 1 damaged, 0 out of order, 194 bytes\n"), "{report:?}");
     // behind a line that is no header too
     let headless = dir.file("headless", format!("#\n{}", long_record('1', name)).as_bytes());
     run(&["list", &headless]).is(2, &format!("{name} {}\n", long_id('1')), "number 2: ");
@@ -279,15 +284,19 @@ fn the_kind_is_that_of_the_records() {
     }
     run(&["--sha256", "check", &long]).is(0, "0 passed: 1 record\n", "");
     run(&["--sha1", "check", NIGHT]).is(0, "0 passed: 28 records\n", "");
-    run(&["--sha1", "check", DAMAGED]).is(2, "", "number 4: ");
+    run(&["--sha1", "check", DAMAGED]).is(2, "", "number 41: ");
 
     // good records of both kinds, and none at all
     let mixed = dir.file("mixed", format!("{}{}", record('1', "refs/s/a"), long_record('1', "refs/s/b")).as_bytes());
     for args in [&["check", &mixed][..], &["lookup", &mixed, name], &["list", &mixed], &["report", &mixed]] {
         run(args).is(2, "", "1 record with ids of 40 digits can be read, and 1 with 64: two tables were mixed. Do not send.");
     }
-    run(&["lookup", &mixed, name, "--sha1"]).is(0, &format!("0 charted {name} {} byte 0\n", id('1')), "");
-    run(&["lookup", &mixed, "refs/s/b", "--sha1"]).is(2, "", "line 2: no answer for 'refs/s/b': number 4: ");
+    run(&["lookup", &mixed, name, "--sha1"]).is(
+        0,
+        &format!("0 charted {name} {} byte 0\n", id('1')),
+        "charted, but in a file that does not pass the check: ",
+    );
+    run(&["lookup", &mixed, "refs/s/b", "--sha1"]).is(2, "", "line 2: no answer for 'refs/s/b': number 42: ");
     let none = dir.file("none", b"rubbish\n\n");
     for args in [&["check", &none][..], &["lookup", &none, name], &["list", &none]] {
         run(args).is(2, "", "line 1: ");

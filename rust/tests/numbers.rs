@@ -1,5 +1,6 @@
 //! docs/NUMBERS.md, the C header and the crate's table of numbers say the same, and no advice makes a charted name absent.
 use packed_refs::numbers::{Beside, Row, ANSWERS, REFUSALS};
+use packed_refs::{IdKind, Table};
 use std::collections::{BTreeMap, BTreeSet};
 use std::path::{Path, PathBuf};
 
@@ -35,6 +36,21 @@ fn the_page_says_what_the_messages_say() {
         let wanted = [&row.number.to_string(), row.meaning, beside, row.sender, row.person];
         assert_eq!(cells[..5], wanted, "the page's row should be:\n| {} | {}\n", wanted.join(" | "), cells[5..].join(" | "));
     }
+}
+
+/// The page's examples of bad records, ``- NUMBER: `LINES` what is wrong``: each gives its number, at its front, and each number has one.
+#[test]
+fn the_examples_of_bad_records_give_their_numbers() {
+    let mut seen = BTreeSet::new();
+    for line in read("docs/NUMBERS.md").lines() {
+        let Some((number, rest)) = line.strip_prefix("- ").and_then(|item| item.split_once(": `")) else { continue };
+        let (number, example) = (number.parse::<u32>().expect(line), rest.split('`').next().expect(line));
+        let lines = example.replace("\\r", "\r").replace("\\n", "\n");
+        let error = Table::check(IdKind::Sha1, &lines).expect_err(line);
+        assert_eq!((error.number(), error.place()), (number, Some(0)), "{line}");
+        seen.insert(number);
+    }
+    assert_eq!(seen, REFUSALS.iter().filter(|reason| reason.is_bad_record()).map(|reason| reason.number()).collect());
 }
 
 /// What the definitions of numbers give: for each `..Number` in the crates' specs, the numbers and the other such definitions in its clauses.
@@ -104,9 +120,13 @@ fn the_c_header_lists_the_same_numbers() {
 fn no_advice_makes_a_charted_name_absent() {
     for row in rows() {
         let advice = row.person;
-        for harmful in ["last night's", "put back", "Delete", "split.", "restore the file"] {
+        for harmful in ["put back", "Delete", "split.", "restore the file"] {
             assert!(!advice.contains(harmful), "number {}: {advice}", row.number);
         }
+        // last night's file is where a single line is taken from, if it is clear which
+        let lines_from =
+            advice.matches("restore the line at that place").count() * advice.matches("file if exactly one line there").count();
+        assert_eq!(advice.matches("last night's").count(), lines_from, "number {}: {advice}", row.number);
         // an older file is named only with what it loses
         if advice.contains("older file") {
             assert!(advice.contains("sent again"), "number {}: {advice}", row.number);
@@ -114,6 +134,10 @@ fn no_advice_makes_a_charted_name_absent() {
         // whoever is sent to a file with damage is told what must not get lost there, and keeps it as it was
         if matches!(row.beside, Beside::Record | Beside::FirstLine) {
             assert!(advice.contains("sent again") && advice.contains("Copy the file"), "number {}: {advice}", row.number);
+        }
+        // a line may hold a second one, which must not get lost with it
+        if (41..=44).contains(&row.number) {
+            assert!(advice.contains("If two lines ran into one there, restore both."), "number {}: {advice}", row.number);
         }
         let is_answer = ANSWERS.contains(&row);
         let holds_back = row.sender == "Do not send." || row.sender == "Hold back what the list names: nothing was written.";

@@ -1,7 +1,8 @@
 //! Every command of the program, and every exit status.
 mod common;
 
-use common::{id, Dir, Ran, HEADER};
+use common::{id, record, Dir, Ran, HEADER};
+use packed_refs::Reason;
 use std::io::Write;
 use std::process::{Command, Stdio};
 
@@ -11,6 +12,10 @@ const EDITS: &str = concat!(env!("CARGO_MANIFEST_DIR"), "/../examples/edits");
 const E2: &str = "refs/sent/ward4/o118/e2";
 const E3: &str = "refs/sent/ward4/o118/e3";
 const E4: &str = "refs/sent/ward4/o118/e4";
+
+const CHARTED_IN_DAMAGED_FILE: &str =
+    "charted, but in a file that does not pass the check: the record may itself be what the damage made. Stop, do not \
+                                       send, and call someone, who runs report on the file. Its first fault: ";
 
 fn run(args: &[&str]) -> Ran {
     common::run(args, b"")
@@ -54,7 +59,8 @@ fn usage() {
 #[test]
 fn check() {
     run(&["check", NIGHT]).is(0, "0 passed: 28 records\n", "");
-    run(&["check", DAMAGED]).is(2, "", "damaged, line 15: number 4: a record can't be read; it starts at byte 891. Do not send.");
+    let words = "damaged, line 15: number 41: a record's id can't be read; the record starts at byte 891. Do not send. Copy the file, ";
+    run(&["check", DAMAGED]).is(2, "", words);
 
     let dir = Dir::new();
     run(&["check", &dir.file("bare", HEADER.as_bytes())]).is(0, "0 passed: 0 records\n", "");
@@ -62,7 +68,7 @@ fn check() {
     let (a, b) = (format!("{} refs/s/a\n", id('1')), format!("{} refs/s/b\r\n^{}\r\n", id('2'), id('3')));
     run(&["check", &dir.file("crlf", format!("{a}{b}").as_bytes())]).is(0, "0 passed: 2 records\n", "");
     run(&["check", &dir.file("mixed", format!("{b}{a}").as_bytes())]).is(2, "", "line 3: number 6: ");
-    run(&["check", &dir.file("cut", &a.as_bytes()[..49])]).is(2, "", "number 4: ");
+    run(&["check", &dir.file("cut", &a.as_bytes()[..49])]).is(2, "", "number 43: ");
     let long = format!("{} refs/s/a\n", "f".repeat(64));
     run(&["--sha256", "check", &dir.file("long", long.as_bytes())]).is(0, "0 passed: 1 record\n", "");
     common::run(&["check", "-"], a.as_bytes()).is(0, "0 passed: 1 record\n", "");
@@ -103,16 +109,16 @@ fn lookup() {
     run(&["lookup", NIGHT, E4]).is(1, &absent, "");
     run(&["lookup", NIGHT, "refs/sent//e4"]).is(2, "", "no answer for 'refs/sent//e4': number 3: ");
     run(&["lookup", NIGHT, ""]).is(2, "", "number 3: ");
-    // what stands elsewhere is still charted, and what can't be read is never absent
-    run(&["lookup", DAMAGED, E3]).is(0, &charted, "");
-    run(&["lookup", DAMAGED, E2]).is(2, "", "number 4: ");
-    run(&["lookup", DAMAGED, E4]).is(2, "", "number 4: ");
+    // what stands elsewhere is still charted, and that the file is damaged is told beside it; what can't be read is never absent
+    run(&["lookup", DAMAGED, E3]).is(0, &charted, &format!("packed-refs: {CHARTED_IN_DAMAGED_FILE}{DAMAGED}, line 15: number 41: "));
+    run(&["lookup", DAMAGED, E2]).is(2, "", "number 41: ");
+    run(&["lookup", DAMAGED, E4]).is(2, "", "number 41: ");
     // of several the worst decides, in any order
     run(&["lookup", NIGHT, E3, E3]).is(0, &format!("{charted}{charted}"), "");
     run(&["lookup", NIGHT, E3, E4]).is(1, &format!("{charted}{absent}"), "");
     run(&["lookup", NIGHT, E4, E3]).is(1, &format!("{absent}{charted}"), "");
     run(&["lookup", NIGHT, "x", E4, E3]).is(2, &format!("{absent}{charted}"), "number 3: ");
-    run(&["lookup", DAMAGED, E3, E4, E3]).is(2, &format!("{charted}{charted}"), "no answer for 'refs/sent/ward4/o118/e4': number 4: ");
+    run(&["lookup", DAMAGED, E3, E4, E3]).is(2, &format!("{charted}{charted}"), "no answer for 'refs/sent/ward4/o118/e4': number 41: ");
 
     let dir = Dir::new();
     let tag = dir.file("tag", format!("{} refs/s/a\n^{}\n", id('1'), id('2')).as_bytes());
@@ -130,7 +136,7 @@ fn list() {
     run(&["list", NIGHT, "refs/x"]).is(0, "", "");
     // a damaged file: all that can be read, the rest on standard error, and the status says so
     let some = run(&["list", DAMAGED, "refs/sent/ward4/o118"]);
-    some.is(2, &expected.lines().filter(|l| !l.contains("e2")).map(|l| format!("{l}\n")).collect::<String>(), "not listed: number 4: ");
+    some.is(2, &expected.lines().filter(|l| !l.contains("e2")).map(|l| format!("{l}\n")).collect::<String>(), "not listed: number 41: ");
 
     let dir = Dir::new();
     let (a, b) = (format!("{} refs/s/a\n", id('1')), format!("{} refs/s/b\n^{}\n", id('2'), id('3')));
@@ -143,21 +149,78 @@ fn list() {
 #[test]
 fn report() {
     run(&["report", NIGHT]).is(0, "total: 28 records, 0 damaged, 0 out of order, 1911 bytes\n", "");
-    let line = "4 damaged: item 15, byte 891, line 15: 00000000000000000000?00000000000003ed5f2 refs/sent/ward4/o118/e2\n";
-    run(&["report", DAMAGED]).is(2, &format!("{line}total: 27 records, 1 damaged, 0 out of order, 1911 bytes\n"), "");
+    let line = "41 damaged: item 15, byte 891, line 15, a record's id can't be read: 00000000000000000000?00000000000003ed5f2 refs/sent/ward4/o118/e2\n";
+    let todo = |reason: Reason| format!("what to do about {}: {} {}\n", reason.number(), reason.row().sender, reason.row().person);
+    let total = "total: 27 records, 1 damaged, 0 out of order, 1911 bytes\n";
+    run(&["report", DAMAGED]).is(2, &format!("{line}{}{total}", todo(Reason::BadId)), "");
 
     // items are counted, and lines beside them; a terminal is not steered
     let dir = Dir::new();
     let tag = format!("{} refs/s/b\n^{}\n", id('1'), id('2'));
     let bytes = [b"#\x1b[2J\r\n", tag.as_bytes(), b"\x1b]0;x\x07\xff\\\r\n", &tag.as_bytes()[..50], b"cut"].concat();
-    let expected = "2 no header: item 1, byte 0, line 1: #\\x1b[2J\n\
-                    4 damaged: item 3, byte 99, line 4: \\x1b]0;x\\x07\\xff\\x5c\\x0d\n\
-                    6 out of order: item 4, byte 109, line 5: refs/s/b\n\
-                    4 damaged: item 5, byte 159, line 6: cu\n\
-                    total: 2 records, 3 damaged, 1 out of order, 162 bytes\n";
-    run(&["report", &dir.file("wild", &bytes)]).is(2, expected, "");
+    let lines = "2 no header: item 1, byte 0, line 1: #\\x1b[2J\n\
+                 41 damaged: item 3, byte 99, line 4, a record's id can't be read: \\x1b]0;x\\x07\\xff\\x5c\\x0d\n\
+                 6 out of order: item 4, byte 109, line 5: refs/s/b\n\
+                 41 damaged: item 5, byte 159, line 6, a record's id can't be read: cu\n";
+    // what to do is said once for each number
+    let todos = [Reason::NoHeader, Reason::Unsorted, Reason::BadId].map(todo).concat();
+    let expected = format!("{lines}{todos}total: 2 records, 3 damaged, 1 out of order, 162 bytes\n");
+    run(&["report", &dir.file("wild", &bytes)]).is(2, &expected, "");
     let long = run(&["report", &dir.file("long", &[b'x'; 10_000])]);
     assert!(long.out.contains("x (and 1807 bytes more)\n"), "{long:?}");
+}
+
+/// Each command says which part of a record is bad, of a name which rule it breaks, and what can be done.
+#[test]
+fn the_bad_part_is_told() {
+    let dir = Dir::new();
+    let (a, c) = (record('1', "refs/s/a"), record('3', "refs/s/c"));
+    let edits = dir.file("edits", b"delete refs/s/a\n");
+    let two = id('2');
+    let lock = "a part of it ends with .lock";
+    for (line, reason, more, in_report) in [
+        (format!("{}? refs/s/b\n", &two[1..]), Reason::BadId, String::new(), String::new()),
+        (format!("{two}refs/s/b\n"), Reason::NoSpace, String::new(), String::new()),
+        (format!("{two} refs/s/b\rx\n"), Reason::BadLineEnd, String::new(), String::new()),
+        (format!("{two} refs/s/b.lock\r\n"), Reason::BadRecordName, format!("; its name is 'refs/s/b.lock': {lock}"), format!(" ({lock})")),
+        (format!("{two} \n"), Reason::BadRecordName, "; its name is '': it is empty".into(), " (it is empty)".into()),
+        (format!("{two} refs/s/b\n^zz\n"), Reason::BadPeeled, String::new(), " (it is the line below this one)".into()),
+    ] {
+        let bytes = format!("{a}{line}{c}");
+        let table = dir.file("table", bytes.as_bytes());
+        let (number, row) = (reason.number(), reason.row());
+        let wrong = format!("number {number}: {}; the record starts at byte 50{more}", row.meaning);
+        let todo = format!(". {} {}\n", row.sender, row.person);
+        run(&["check", &table]).is(2, "", &format!("table, line 2: {wrong}{todo}"));
+        run(&["lookup", &table, "refs/s/b"]).is(2, "", &format!("table, line 2: no answer for 'refs/s/b': {wrong}{todo}"));
+        run(&["merge", &table, &edits, "-o", &table]).is(2, "", &format!("table, line 2: {wrong}{todo}"));
+        assert_eq!(dir.read("table"), bytes.as_bytes());
+
+        // charted before the damage and behind it: the status is 0, and the damage is told once
+        let charted = |digit, name: &str| format!("0 charted {name} {} byte {}\n", id(digit), bytes.find(name).unwrap() - 41);
+        let (charted_a, charted_c) = (charted('1', "refs/s/a"), charted('3', "refs/s/c"));
+        for (names, told) in [
+            (&["refs/s/a"][..], charted_a.clone()),
+            (&["refs/s/c"], charted_c.clone()),
+            (&["refs/s/a", "refs/s/c"], format!("{charted_a}{charted_c}")),
+        ] {
+            let ran = run(&[&["lookup", &table][..], names].concat());
+            ran.is(0, &told, &format!("packed-refs: {CHARTED_IN_DAMAGED_FILE}{table}, line 2: {wrong}\n"));
+            assert_eq!(ran.err.lines().count(), 1, "{ran:?}");
+        }
+
+        let part = format!("{}{in_report}", row.meaning);
+        let readable = format!("refs/s/a {}\nrefs/s/c {}\n", id('1'), id('3'));
+        run(&["list", &table]).is(2, &readable, &format!("not listed: number {number}: {part}; item 2, it starts at byte 50: 2"));
+        let report = run(&["report", &table]);
+        assert!(report.out.starts_with(&format!("{number} damaged: item 2, byte 50, line 2, {part}: 2")), "{report:?}");
+        assert!(report.out.contains(&format!("\nwhat to do about {number}: {} {}\n", row.sender, row.person)), "{report:?}");
+    }
+    // the ^ line itself is an item behind its record
+    let report = run(&["report", &dir.file("table", format!("{}^zz\n", record('2', "refs/s/b")).as_bytes())]);
+    let second =
+        "\n41 damaged: item 2, byte 50, line 2, a record's id can't be read (it is a ^ line, and belongs to the record above it): ^zz\n";
+    assert!(report.out.starts_with("45 damaged: item 1, byte 0, line 1, ") && report.out.contains(second), "{report:?}");
 }
 
 #[test]
@@ -270,7 +333,7 @@ fn merges_that_are_refused_write_nothing() {
         assert!(!dir.has("old.lock"));
     }
     let list = dir.file("edits", b"delete refs/s/a\n");
-    for (bytes, words) in [("#\n", "line 1: number 2: "), ("x\n", "line 1: number 4: ")] {
+    for (bytes, words) in [("#\n", "line 1: number 2: "), ("x\n", "line 1: number 41: ")] {
         let bad = dir.file("bad", bytes.as_bytes());
         run(&["merge", &bad, &list, "-o", &bad]).is(2, "", words);
         assert_eq!(dir.read("bad"), bytes.as_bytes());

@@ -57,14 +57,25 @@ fn starts() {
 #[test]
 fn steps() {
     let file = [&old()[..], b"rubbish\n"].concat();
-    let good =
-        StepReply { number: 0, what: 1, start: 96, next: 188, item: 8, name_at: 137, name_len: 8, peeled_at: 147, error: 0, text_len: 0 };
+    let good = StepReply {
+        number: 0,
+        what: 1,
+        start: 96,
+        next: 188,
+        item: 8,
+        name_at: 137,
+        name_len: 8,
+        peeled_at: 147,
+        why: 0,
+        error: 0,
+        text_len: 0,
+    };
     assert_eq!(step(1, &file, 96, 7), good);
     assert_eq!(step_prefix(1, &file, b"refs/s/c", 96, 7), good);
     assert_eq!(step(1, &file, 46, 2).peeled_at, 0);
 
     let nothing = StepReply { what: 0, start: 0, name_at: 0, name_len: 0, peeled_at: 0, ..good };
-    let error = StepReply { what: 2, start: 188, next: 196, item: 10, error: 9, text_len: 7, ..nothing };
+    let error = StepReply { what: 2, start: 188, next: 196, item: 10, why: 41, error: 9, text_len: 7, ..nothing };
     assert_eq!(step(1, &file, 188, 9), error);
     assert_eq!(step_prefix(1, &file, b"anything", 188, 9), error);
 
@@ -85,7 +96,7 @@ fn steps() {
 fn checks() {
     assert_eq!(check(1, &old()), CheckReply { number: 0, place: 0, count: 2, text_len: 0 });
     assert_eq!(check(1, b"# no header"), CheckReply { number: 2, place: 0, count: 0, text_len: 11 });
-    assert_eq!(check(1, &[&old()[..], b"x\n"].concat()), CheckReply { number: 4, place: 188, count: 0, text_len: 0 });
+    assert_eq!(check(1, &[&old()[..], b"x\n"].concat()), CheckReply { number: 41, place: 188, count: 0, text_len: 0 });
     let twice = [record(b'1', "refs/s/a", None), record(b'1', "refs/s/a", None)].concat();
     assert_eq!(check(1, &twice), CheckReply { number: 6, place: 50, count: 0, text_len: 0 });
     assert_eq!(check(7, b"").number, 1);
@@ -112,7 +123,9 @@ fn lookups() {
     assert_eq!(lookup(1, &file[46..], b"refs"), LookupReply { number: 3, ..none });
     assert_eq!(lookup(1, b"rubbish\n", b"refs/s/b"), LookupReply { number: 4, ..none });
     let bad = [record(b'1', "refs/s/a", None), record(b'?', "refs/s/b", None)].concat();
-    assert_eq!(lookup(1, &bad, b"refs/s/b"), LookupReply { number: 4, place: 50, ..none });
+    assert_eq!(lookup(1, &bad, b"refs/s/b"), LookupReply { number: 41, place: 50, ..none });
+    let peeled = [&record(b'1', "refs/s/a", None)[..], &record(b'2', "refs/s/b", None), b"^x\n"].concat();
+    assert_eq!(lookup(1, &peeled, b"refs/s/b"), LookupReply { number: 45, place: 50, ..none });
     assert_eq!(lookup(0, b"", b"").number, 1);
     assert_eq!(lookup(1, &too_large(), b"").number, 17);
 }
@@ -131,14 +144,16 @@ fn prefixes() {
 #[test]
 fn asks() {
     let file = old();
-    let hit = AskReply { number: 0, place: 96, name_at: 137, name_len: 8, peeled_at: 147, text_len: 0 };
+    let hit = AskReply { number: 0, place: 96, name_at: 137, name_len: 8, peeled_at: 147, text_len: 0, fault: 0 };
     assert_eq!(ask(1, &file, b"refs/s/c"), hit);
-    let none = AskReply { number: 5, place: 0, name_at: 0, name_len: 0, peeled_at: 0, text_len: 0 };
+    assert_eq!(ask(1, &[&file[..], b"x\n"].concat(), b"refs/s/c"), AskReply { fault: 41, ..hit });
+    let none = AskReply { number: 5, place: 0, name_at: 0, name_len: 0, peeled_at: 0, text_len: 0, fault: 0 };
     assert_eq!(ask(1, &file, b"refs/s/b"), none);
     assert_eq!(ask(1, &file, b"refs"), AskReply { number: 3, ..none });
     assert_eq!(ask(1, b"#\n", b"refs/s/b"), AskReply { number: 2, text_len: 1, ..none });
-    assert_eq!(ask(1, &[&file[..], b"x\n"].concat(), b"refs/s/b"), AskReply { number: 4, place: 188, ..none });
+    assert_eq!(ask(1, &[&file[..], b"x\n"].concat(), b"refs/s/b"), AskReply { number: 41, place: 188, ..none });
     let twice = [&file[..], &record(b'1', "refs/s/a", None)].concat();
+    assert_eq!(ask(1, &twice, b"refs/s/c"), AskReply { fault: 6, ..hit });
     assert_eq!(ask(1, &twice, b"refs/s/b"), AskReply { number: 6, place: 188, ..none });
     assert_eq!(ask(0, b"", b"").number, 1);
     assert_eq!(ask(1, &too_large(), b"").number, 17);
@@ -161,7 +176,7 @@ fn merges() {
 
     let run = |old: &[u8], list: &[u8], index: usize| merge(1, old, list, &mut vec![0; index], &mut [0; 500]);
     assert_eq!(run(b"#\n", b"", 0), MergeReply { number: 2, text_len: 1, ..none });
-    assert_eq!(run(&[&old()[..], b"x\n"].concat(), b"", 0), MergeReply { number: 4, place: 188, ..none });
+    assert_eq!(run(&[&old()[..], b"x\n"].concat(), b"", 0), MergeReply { number: 41, place: 188, ..none });
     let twice = [record(b'1', "refs/s/a", None), record(b'1', "refs/s/a", None)].concat();
     assert_eq!(run(&twice, b"", 0), MergeReply { number: 6, place: 50, ..none });
     assert_eq!(run(b"", b"\x00\x03a/b\x03", 9), MergeReply { number: 7, place: 5, ..none });

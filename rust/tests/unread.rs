@@ -219,18 +219,25 @@ fn a_file_that_changes_while_it_is_read() {
     once.is(0, &format!("0 charted refs/s/b {:040} byte 50\n", 2), "");
 }
 
-/// A table that was written to just now may still be in the making, and stand at the end of a line: absent is not said of it before it stands still.
+/// A table that was written to just now may still be in the making, and stand at the end of a line: absent is not said of it before it stands still. Nor is,
+/// within a line, that it is damaged.
 #[test]
 fn a_table_in_the_making_is_waited_for() {
     let dir = Dir::new();
-    let charted = format!("0 charted refs/s/b {} byte 50\n", id('2'));
-    let rest = dir.file("rest", record('2', "refs/s/b").as_bytes());
-    for (command, told) in [(&["lookup", "table", "refs/s/b"][..], &charted[..]), (&["check", "table"], "0 passed: 2 records\n")] {
-        let table = dir.file("table", record('1', "refs/s/a").as_bytes());
+    let charted = |digit, name, byte| format!("0 charted {name} {} byte {byte}\n", id(digit));
+    let both = format!("{}{}", record('1', "refs/s/a"), record('2', "refs/s/b"));
+    for (command, written, told) in [
+        (&["lookup", "table", "refs/s/b"][..], 50, charted('2', "refs/s/b", 50)),
+        (&["lookup", "table", "refs/s/b"], 70, charted('2', "refs/s/b", 50)),
+        (&["lookup", "table", "refs/s/a"], 70, charted('1', "refs/s/a", 0)),
+        (&["check", "table"], 50, "0 passed: 2 records\n".to_string()),
+    ] {
+        let table = dir.file("table", &both.as_bytes()[..written]);
+        let rest = dir.file("rest", &both.as_bytes()[written..]);
         // a time ahead of our clock is just now, too, however long it takes to get there
         File::options().append(true).open(&table).unwrap().set_modified(SystemTime::now() + Duration::from_secs(3600)).unwrap();
         let args: Vec<&str> = command.iter().map(|word| if *word == "table" { &table[..] } else { word }).collect();
-        meanwhile(&dir, "WAIT=1", &format!("cat '{rest}' >>'{table}'"), &args).is(0, told, "");
+        meanwhile(&dir, "WAIT=1", &format!("cat '{rest}' >>'{table}'"), &args).is(0, &told, "");
     }
 }
 

@@ -111,6 +111,7 @@ fn item(r: reply_file::walk::StepReply) {
         _ => {
             tell::text(b" e");
             tell::place(r.start);
+            tell::number(r.why);
             tell::count(r.error);
             tell::place(r.text_len);
             tell::place(r.next);
@@ -155,7 +156,10 @@ fn trusted(kind: u32, file: &[u8], name: &[u8]) {
     let n = r.number;
     tell::number(n);
     match n {
-        0 => record(r.place, r.name_at, r.name_len, r.peeled_at),
+        0 => {
+            record(r.place, r.name_at, r.name_len, r.peeled_at);
+            tell::number(r.fault);
+        },
         _ => tell::refusal(n, r.place, r.text_len),
     }
 }

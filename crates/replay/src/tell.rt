@@ -23,7 +23,7 @@ pub(crate) fn place(n: usize) {
 pub(crate) fn refusal(number: u32, at: usize, text_len: usize) {
     match number {
         2 => place(text_len),
-        1 | 3 | 5 | 10 | 12 | 13 | 14 | 15 | 16 | 17 => {},
+        1 | 3 | 4 | 5 | 10 | 12 | 13 | 14 | 15 | 16 | 17 => {},
         _ => place(at),
     }
 }

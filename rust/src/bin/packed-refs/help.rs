@@ -26,7 +26,7 @@ check and merge say how many records there are: keep that number, and ask with l
 
 const STATUS: &str = "\
 exit status:
-  0   charted, passed, done
+  0   charted, passed, done. If standard error says that what is charted stands in a damaged file, call someone.
   1   absent; merge: nothing to do
   2   no answer: unreadable or refused, for a reason given on standard error. Do not send.
       report gives the damaged lines on standard output

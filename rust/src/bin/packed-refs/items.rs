@@ -1,25 +1,43 @@
 //! All items of a file, and damaged lines in words.
 use crate::json::Object;
-use packed_refs::{Damage, Error, IdKind, Items, Reason, Table};
+use crate::rule;
+use packed_refs::{Damage, Error, Escaped, IdKind, Items, Reason, Table};
 
 /// More of a damaged line is not shown.
 const LONGEST_TEXT: usize = 8192;
 
 /// A damaged line in words, cut off if it is very long.
 pub fn shown(damage: &Damage<'_>) -> String {
-    Damage { text: start_of(damage.text), ..*damage }.to_string() + rest_of(damage.text).as_str()
+    let (number, item, place) = (damage.reason.number(), damage.item, damage.place);
+    format!("number {number}: {}; item {item}, it starts at byte {place}: {}", bad_part(damage), text_of(damage))
+}
+
+/// Which part of it is bad, and what more can be said of that.
+pub fn bad_part(damage: &Damage<'_>) -> String {
+    let meaning = damage.reason.row().meaning;
+    match damage.reason {
+        Reason::BadId if damage.text.starts_with(b"^") => format!("{meaning} (it is a ^ line, and belongs to the record above it)"),
+        Reason::BadPeeled => format!("{meaning} (it is the line below this one)"),
+        _ => broken_rule(damage).map_or(meaning.to_string(), |rule| format!("{meaning} ({rule})")),
+    }
+}
+
+/// The text of it, cut off if it is very long.
+pub fn text_of(damage: &Damage<'_>) -> String {
+    format!("{}{}", Escaped(start_of(damage.text)), rest_of(damage.text))
+}
+
+/// The rule that its name breaks, where it is the name that is bad.
+fn broken_rule(damage: &Damage<'_>) -> Option<&'static str> {
+    (damage.reason == Reason::BadRecordName).then(|| rule::broken(rule::name_in(damage.text)))
 }
 
 /// A damaged line as JSON, with the number of the line where that is known.
 pub fn damaged_object(damage: &Damage<'_>, line: Option<usize>) -> Object {
-    let object = Object::new("damaged").number("number", number_of(damage)).number("item", damage.item);
+    let object = Object::new("damaged").number("number", damage.reason.number()).number("item", damage.item);
     let object = object.optional(line, |object, line| object.count("line", line)).count("byte", damage.place);
-    object.bytes("text", start_of(damage.text)).count("length", damage.text.len())
-}
-
-/// The number of a damaged line.
-pub fn number_of(_: &Damage<'_>) -> u32 {
-    Reason::BadRecord.row().number
+    let object = object.bytes("text", start_of(damage.text)).count("length", damage.text.len());
+    object.optional(broken_rule(damage), |object, rule| object.text("rule", rule))
 }
 
 pub fn start_of(text: &[u8]) -> &[u8] {

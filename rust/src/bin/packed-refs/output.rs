@@ -45,6 +45,14 @@ impl Out {
         }
     }
 
+    /// Something beside the answers that only people read: JSON has no line of it.
+    pub fn remark(&mut self, words: impl fmt::Display) -> io::Result<()> {
+        match self.is_quiet || self.is_json {
+            true => Ok(()),
+            false => writeln!(self.to, "{words}"),
+        }
+    }
+
     /// A line of JSON.
     pub fn object(&mut self, object: Object) -> io::Result<()> {
         self.data(object.end().as_bytes())

@@ -36,8 +36,7 @@ impl Refusal {
 
     /// The same where the line is known.
     fn at(input: &Input, line: Option<usize>, about: &str, error: &Error) -> Refusal {
-        let place = line.map_or(String::new(), |line| format!(", line {line}"));
-        let words = format!("{}{place}: {about}{error}", input.name);
+        let words = format!("{}: {about}{}. {}", whereabouts(input, line), fault_of(input, error), error.what_to_do());
         let (number, file) = (Some(error.number()), Some(input.given.clone()));
         Refusal { words, number, file, line, byte: error.place_in_file(), name: None }
     }
@@ -48,8 +47,8 @@ impl Refusal {
         let refusal = match error.place_in_file() {
             Some(_) => Refusal::at(input, line, &about, error),
             None => {
-                let broken = if error.reason() == Reason::BadName { format!(": {}", rule::broken(name)) } else { String::new() };
-                let words = format!("{about}number {}: {}{broken}. {}", error.number(), error.meaning(), error.what_to_do());
+                let rule = if error.reason() == Reason::BadName { format!(": {}", rule::broken(name)) } else { String::new() };
+                let words = format!("{about}{}{rule}. {}", error.what_is_wrong(), error.what_to_do());
                 Refusal { number: Some(error.number()), ..Refusal::new(words) }
             }
         };
@@ -66,6 +65,23 @@ impl Refusal {
             .optional(self.line, |object, line| object.count("line", line))
             .optional(self.byte, |object, byte| object.count("byte", byte))
             .text("message", &self.words)
+    }
+}
+
+/// The file, and the line where that is known.
+pub fn whereabouts(input: &Input, line: Option<usize>) -> String {
+    format!("{}{}", input.name, line.map_or(String::new(), |line| format!(", line {line}")))
+}
+
+/// What is wrong with a table; of a record whose name is bad, the name too, and the rule that it breaks.
+pub fn fault_of(input: &Input, error: &Error) -> String {
+    let wrong = error.what_is_wrong();
+    match (error.reason(), error.place_in_file()) {
+        (Reason::BadRecordName, Some(place)) => {
+            let name = rule::name_in(&input.bytes[place..]);
+            format!("{wrong}; its name is {}: {}", Quoted(name), rule::broken(name))
+        }
+        _ => wrong,
     }
 }
 

@@ -36,9 +36,16 @@ pub fn broken(name: &[u8]) -> &'static str {
     }
 }
 
+/// The name in a record's line: what stands between its first space and its line end. Of such a line the library has said that only the name is bad.
+pub fn name_in(line: &[u8]) -> &[u8] {
+    let end = line.iter().position(|b| *b == b'\r' || *b == b'\n').unwrap_or(line.len());
+    let from = line[..end].iter().position(|b| *b == b' ').map_or(end, |space| space + 1);
+    &line[from..end]
+}
+
 #[cfg(test)]
 mod tests {
-    use super::broken;
+    use super::{broken, name_in};
     use packed_refs::check_name;
 
     /// Every name of up to six bytes or words out of those that a rule speaks of: a name that the library refuses has its reason, and another has none.
@@ -59,5 +66,18 @@ mod tests {
         assert_eq!(broken(b"refs/a.lock"), "a part of it ends with .lock");
         assert_eq!(broken(b"refs/e3.lock/a"), "a part of it ends with .lock");
         assert_eq!(broken(b"refs/a:b"), "it holds one of ~ ^ : ? * [ \\");
+    }
+
+    #[test]
+    fn a_name_is_cut_out_of_its_line() {
+        for (line, name) in [
+            ("11 refs/a.\n^22\n", "refs/a."),
+            ("11 refs/a.\r", "refs/a."),
+            ("11  refs/a b", " refs/a b"),
+            ("11 \r\n22 b\n", ""),
+            ("11", ""),
+        ] {
+            assert_eq!(name_in(line.as_bytes()), name.as_bytes(), "{line:?}");
+        }
     }
 }

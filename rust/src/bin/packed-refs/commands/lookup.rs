@@ -8,10 +8,10 @@ use crate::kind::{judge, Judged};
 use crate::names;
 use crate::output::{say, Out};
 use crate::progress::Progress;
-use crate::refusal::{Refusal, Trouble};
+use crate::refusal::{fault_of, whereabouts, Refusal, Trouble};
 use crate::words::{count, Quoted};
 use crate::Status;
-use packed_refs::{ask_many, Error, Escaped, Found, Record};
+use packed_refs::{ask_many, Asked, Error, Escaped, Found, Reason, Record};
 use std::ffi::OsString;
 
 pub fn run(settings: &Settings, words: &[OsString], out: &mut Out) -> Ended {
@@ -21,7 +21,7 @@ pub fn run(settings: &Settings, words: &[OsString], out: &mut Out) -> Ended {
     }
     let list = names::file(file, settings)?;
     let names = names::all(named, list.as_ref(), settings)?;
-    let input = Input::table_for(file, settings, |input| some_absent(settings, input, &names))?;
+    let input = Input::table_for(file, settings, |input| hangs_on_the_end(settings, input, &names))?;
     let judged = judge(settings.kind, &input)?;
     let mut asking = Asking::new(settings, &input, &judged, out);
     asking.ask(&names)?;
@@ -33,10 +33,10 @@ pub fn run(settings: &Settings, words: &[OsString], out: &mut Out) -> Ended {
     Ok(worst)
 }
 
-/// Whether a name is absent: only that answer may hang on what is still to be written.
-fn some_absent(settings: &Settings, input: &Input, names: &[&[u8]]) -> Result<bool, Trouble> {
+/// Whether an answer may hang on what is still to be written: that a name is absent, and that the table does not pass the check.
+fn hangs_on_the_end(settings: &Settings, input: &Input, names: &[&[u8]]) -> Result<bool, Trouble> {
     let judged = judge(settings.kind, input)?;
-    Ok(judged.check.is_ok_and(|table| names.iter().any(|name| table.find(name) == Ok(Found::Absent))))
+    Ok(judged.check.map_or(true, |table| names.iter().any(|name| table.find(name) == Ok(Found::Absent))))
 }
 
 struct Asking<'a, 'o> {
@@ -49,13 +49,15 @@ struct Asking<'a, 'o> {
     out: &'o mut Out,
     worst: Status,
     some_absent: bool,
+    /// Whether it was said that what is charted stands in a file that does not pass the check.
+    is_warned: bool,
 }
 
 impl<'a, 'o> Asking<'a, 'o> {
     fn new(settings: &Settings, input: &'a Input, judged: &'a Judged<'a>, out: &'o mut Out) -> Asking<'a, 'o> {
         let line = judged.check.as_ref().err().and_then(Error::place_in_file).map(|place| input.line(place));
         let least = settings.records.unwrap_or(0);
-        Asking { input, judged, line, least, out, worst: Status::Done, some_absent: false }
+        Asking { input, judged, line, least, out, worst: Status::Done, some_absent: false, is_warned: false }
     }
 
     /// In a table that passes each name is a few probes. In another one all names are asked for in one pass.
@@ -65,7 +67,7 @@ impl<'a, 'o> Asking<'a, 'o> {
             Ok(table) => {
                 for (done, name) in names.iter().enumerate() {
                     progress.at(done);
-                    self.tell(name, table.find(name))?;
+                    self.tell(name, table.find(name).map(Asked::from))?;
                 }
             }
             Err(_) => {
@@ -77,26 +79,41 @@ impl<'a, 'o> Asking<'a, 'o> {
         Ok(())
     }
 
-    fn tell(&mut self, name: &[u8], told: Result<Found<'_>, Error>) -> Result<(), Trouble> {
+    fn tell(&mut self, name: &[u8], told: Result<Asked<'_>, Error>) -> Result<(), Trouble> {
         let status = match told {
-            Ok(Found::Charted(record)) => {
-                self.charted(name, &record)?;
+            Ok(Asked::Charted(record)) => {
+                self.charted(name, &record, None)?;
                 Status::Done
             }
-            Ok(Found::Absent) => self.absent(name)?,
+            Ok(Asked::ChartedInDamagedFile { record, fault }) => {
+                self.charted(name, &record, Some(fault))?;
+                self.warn()?;
+                Status::Done
+            }
+            Ok(Asked::Absent) => self.absent(name)?,
             Err(error) => self.refuse(Refusal::of_name(self.input, self.line, name, &error))?,
         };
         self.worst = self.worst.max(status);
         Ok(())
     }
 
-    fn charted(&mut self, name: &[u8], record: &Record<'_>) -> Result<(), Trouble> {
+    fn charted(&mut self, name: &[u8], record: &Record<'_>, fault: Option<Reason>) -> Result<(), Trouble> {
         let peeled = record.peeled.map_or(String::new(), |peeled| format!(" peeled {}", Escaped(peeled)));
         let words = format_args!("0 charted {} {} byte {}{peeled}", Escaped(name), Escaped(record.id), record.place);
         Ok(self.out.answer(words, || {
             let object = Object::new("charted").number("status", 0u32).number("number", 0u32).bytes("name", name).bytes("id", record.id);
-            object.optional(record.peeled, |object, peeled| object.bytes("peeled", peeled)).count("byte", record.place)
+            let object = object.optional(record.peeled, |object, peeled| object.bytes("peeled", peeled)).count("byte", record.place);
+            object.optional(fault, |object, fault| object.number("fault", fault.number()))
         })?)
+    }
+
+    /// Says once, behind the first such name, that the file does not pass the check: with --quiet too, since the exit status does not say it.
+    fn warn(&mut self) -> Result<(), Trouble> {
+        let (Err(error), false) = (&self.judged.check, self.is_warned) else { return Ok(()) };
+        self.is_warned = true;
+        self.out.flush()?;
+        say(charted_in_damaged_file(self.input, self.line, error));
+        Ok(())
     }
 
     fn absent(&mut self, name: &[u8]) -> Result<Status, Trouble> {
@@ -118,6 +135,15 @@ impl<'a, 'o> Asking<'a, 'o> {
         say(&refusal.words);
         Ok(Status::Refused)
     }
+}
+
+fn charted_in_damaged_file(input: &Input, line: Option<usize>, error: &Error) -> String {
+    format!(
+        "charted, but in a file that does not pass the check: the record may itself be what the damage made. Stop, do not send, and call someone, who \
+         runs report on the file. Its first fault: {}: {}",
+        whereabouts(input, line),
+        fault_of(input, error)
+    )
 }
 
 fn too_few(input: &Input, name: &[u8], has: usize, least: usize) -> Refusal {

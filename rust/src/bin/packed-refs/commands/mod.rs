@@ -45,7 +45,7 @@ pub const COMMANDS: &[Command] = &[
     Command {
         name: "report",
         words: "FILE",
-        about: "every damaged line with its item number, place and text, then totals",
+        about: "every damaged line with its item number, place, bad part and text, what to do about it, then totals",
         run: report::run,
     },
     Command {
