@@ -1,7 +1,10 @@
 """What the Rust answers, in the one-line form that compare/ours.c and the vectors use (compare/README.md), and which inputs lie outside the
-domain that both sides share. A question is (operation, kind, lent bytes and numbers ..); a merge's edits are a list of tuples."""
+domain that both sides share. A question is (operation, kind, lent bytes and numbers ..); a merge's edits are a list of tuples.
+
+The Rust has one error for all bad records. So it judges where a record is bad and what the error covers, the model has to say the same, and which part is
+bad (41 to 45) is the model's word."""
 import re
-from model import DIGITS
+from model import BAD, DIGITS, answered, covered, first_fault, record, spelled
 
 
 def hexed(b):
@@ -86,17 +89,25 @@ def record_at(b, kind, at, item):
     return at, at + n + 1, len(name), peeled, end
 
 
+def why_bad(b, kind, at):
+    """The model's word on a record that the Rust can't read."""
+    why = record(b, kind, at)
+    need(why in BAD, "an error of the Rust where the model reads a record")
+    return why
+
+
 def items_of(b, kind, place, number, items):
-    """[('r', start, name_at, name_len, peeled_at, next) or ('e', start, number, text_len, next)]; each begins where the one before ends."""
+    """The Rust's items in the form of the model's; each begins where the one before ends."""
     out = []
     for i in items:
         if "err" in i:
-            lf = b.find(b"\n", place)
-            end = len(b) if lf < 0 else lf + 1
+            end = covered(b, place)
             need(i["err"] == number and b[place:end - 1].hex() == i["line"], "an error's number or text")
-            out.append(("e", place, number, end - 1 - place, end))
+            out.append(("e", place, why_bad(b, kind, place), number, end - 1 - place, end))
         else:
-            out.append(("r",) + record_at(b, kind, place, i))
+            r = record_at(b, kind, place, i)
+            need(record(b, kind, place) == r[1:], "a record of the Rust that the model reads otherwise")
+            out.append(("r",) + r)
         place = out[-1][-1]
         number += 1
     return out
@@ -122,30 +133,9 @@ def file_items(b, kind, a):
     return place, number, out
 
 
-def spelled(b, place, number, items):
-    return f"0 {place} {number}" + "".join(" " + " ".join(map(str, i)) for i in items) + f" . {len(b)} {number + len(items)}"
-
-
 def check(b, kind, a):
     f = file_items(b, kind, a)
-    if isinstance(f, int):
-        return f"2 {f}"
-    last = b""
-    for i in f[2]:
-        if i[0] == "e":
-            return f"4 {i[1]}"
-        name = b[i[2]:i[2] + i[3]]
-        if not last < name:
-            return f"6 {i[1]}"
-        last = name
-    return f"0 {len(f[2])}"
-
-
-def named(b, items, name):
-    for i in items:
-        if i[0] == "r" and b[i[2]:i[2] + i[3]] == name:
-            return f"0 {i[1]} {i[2]} {i[3]} {i[4]}"
-    return None
+    return f"2 {f}" if isinstance(f, int) else first_fault(b, f[2])
 
 
 def index_text(edits):
@@ -179,7 +169,8 @@ def expected(q, answers):
             need(answers[1] == {"r": "hit", "at": r[0]}, "search and find")
             return f"0 {r[0]} {r[1]} {r[2]} {r[3]}"
         if a["r"] == "parse":
-            return f"4 {answers[1]['at'] if answers[1]['r'] == 'hit' else 0}"
+            at = answers[1]["at"]
+            return f"{why_bad(b, kind, at)} {at}" if answers[1]["r"] == "hit" else "4"
         return {"notfound": "5", "name": "3"}[a["r"]]
     if op == "p":
         at = answers[1]["at"]
@@ -198,7 +189,7 @@ def expected(q, answers):
             # The number counts items, from 1 behind the header; a file that is sorted on opening is told its item's number or its line in another form.
             said = check(b, kind, answers[1])
             bad = [i for i in file_items(b, kind, answers[1])[2] if i[0] == "e"][0]
-            need(a["error"]["line"] == b[bad[1]:bad[1] + bad[3]].hex(), "the line of a merge's error")
+            need(a["error"]["line"] == b[bad[1]:bad[1] + bad[4]].hex(), "the line of a merge's error")
             return said + ix
         if a["r"] == "written":
             return f"0 {len(a['bytes']) // 2} {a['bytes']}" + ix
@@ -218,10 +209,7 @@ def expected(q, answers):
         if not answers[1]["valid"]:
             return "3"
         f = file_items(b, kind, a)
-        if isinstance(f, int):
-            return f"2 {f}"
-        said = check(b, kind, a)
-        return named(b, f[2], rest[1]) or ("5" if said[0] == "0" else said)
+        return f"2 {f}" if isinstance(f, int) else answered(b, f[2], rest[1])
     raise ValueError(op)
 
 
@@ -251,10 +239,14 @@ def ordered_by_shape(b, kind):
     """Whether every probe meets a shape that reads, and the names rise: then every search gives the same answer. Other bytes are unchecked bytes, on
     which the two sides probe other places."""
     n = DIGITS[kind]
-    if b and not b.endswith(b"\n"):
+    *lines, rest = b.split(b"\n")
+    if rest.startswith(b"^"):
+        # Not ended, but a probe in it reads the line before.
+        lines.append(rest)
+    elif rest:
         return False
     last, may_be_peeled = b"", False
-    for line in b.split(b"\n")[:-1]:
+    for line in lines:
         if line.startswith(b"^"):
             if not may_be_peeled:
                 return False
@@ -265,6 +257,11 @@ def ordered_by_shape(b, kind):
             return False
         last, may_be_peeled = name, True
     return True
+
+
+def one_line(b):
+    """Whether every probe reads the same line: then it doesn't matter which places are probed."""
+    return b"\n" not in b[:-1]
 
 
 def outside(q, answers):
@@ -283,7 +280,7 @@ def outside(q, answers):
         return why
     if op in "fa" and odd_name(rest[1]):
         return odd_name(rest[1])
-    if op in "fp" and not ordered_by_shape(b, kind):
+    if op in "fp" and not ordered_by_shape(b, kind) and not one_line(b):
         return "unchecked bytes"
     if op == "m":
         edits = rest[1]
@@ -294,13 +291,13 @@ def outside(q, answers):
                 return "an edit name over 4,096 bytes"
         if len({e[1] for e in edits}) < len(edits):
             return "two edits of one name"
-        said = check(b, kind, answers[1])
-        if said[0] == "6":
+        number = int(check(b, kind, answers[1]).split(" ")[0])
+        if number == 6:
             return "names out of order or repeated"
-        if said[0] == "4" and not any(e[0] == "u" for e in edits):
+        if number in BAD and not any(e[0] == "u" for e in edits):
             return "a damaged file and no update"
-        if b[:1] == b"#" and said[0] == "4" and b[behind_header(b):][:1] == b"#":
+        if b[:1] == b"#" and number in BAD and b[behind_header(b):][:1] == b"#":
             return "a second header line"
-        if said[0] == "0" and any(e[0] == "d" and (not e[1].startswith(b"refs/") or e[1].startswith(b"refs/worktree/")) for e in edits):
+        if number == 0 and any(e[0] == "d" and (not e[1].startswith(b"refs/") or e[1].startswith(b"refs/worktree/")) for e in edits):
             return "a delete looked up as a partial name"
     return None

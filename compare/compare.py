@@ -52,16 +52,29 @@ def tell(q, theirs, mine, raw=None):
     print(f"   input {q!r:.2000}\n   there {theirs:.2000}\n   here  {mine:.2000}" + (f"\n   oracle {json.dumps(raw):.500}" if raw else ""))
 
 
+def told_beside(op, answer):
+    """The numbers that an answer tells beside its own: why each error of an iteration is one, and what fault a file has in which `ask` finds a record."""
+    parts = answer.split(" ")
+    if op in "ip":
+        return [parts[i + 2] for i, part in enumerate(parts[:-2]) if part == "e"]
+    return parts[-1:] if op == "a" and parts[0] == "0" else []
+
+
+def counted(numbers):
+    return ", ".join(f"{k}: {v}" for k, v in sorted(numbers.items(), key=lambda x: (len(x[0]), x[0])))
+
+
 class Tally:
     def __init__(self):
         self.n, self.wrong, self.least = 0, 0, None
-        self.numbers = collections.Counter()
+        self.numbers, self.beside = collections.Counter(), collections.Counter()
         # Of each rule: inputs left out, how many of them differ, the smallest that does.
         self.left = {}
 
     def add(self, q, theirs, mine, raw=None):
         self.n += 1
         self.numbers["a place" if q[0] == "s" else mine.split(" ", 1)[0]] += 1
+        self.beside.update(told_beside(q[0], mine))
         if theirs != mine:
             self.wrong += 1
             if self.least is None or size(q) < size(self.least[0]):
@@ -77,8 +90,9 @@ class Tally:
 
     def report(self, what):
         """Whether all agree."""
-        by_number = ", ".join(f"{k}: {v}" for k, v in sorted(self.numbers.items(), key=lambda x: (len(x[0]), x[0])))
-        print(f"{what}: {self.n} compared, {self.wrong} differ\n   answers by number: {by_number}")
+        print(f"{what}: {self.n} compared, {self.wrong} differ\n   answers by number: {counted(self.numbers)}")
+        if self.beside:
+            print(f"   {'faults beside 0' if what == 'ask' else 'errors by reason'}: {counted(self.beside)}")
         for why, (n, differ, least) in sorted(self.left.items(), key=lambda x: -x[1][0]):
             print(f"   outside the shared domain: {n}, of them {differ} differ: {why}")
             if least and "SHOW" in os.environ:
@@ -126,7 +140,7 @@ def added(count, seed):
         mine = answers(start(os.environ["OURS"], [ours_line(q) for q in batch]), len(batch))
         for q, m in zip(batch, mine):
             t.add(q, model.merge(*q[1:]), m)
-    return t.report("merge by lists of edits as bytes, against a model of document 01")
+    return t.report("merge by lists of edits as bytes, against the model")
 
 
 def by_git(count, seed):

@@ -2,7 +2,7 @@
 others yield random ones without an end."""
 import itertools
 from answers import DIGITS, edit_bytes
-from model import valid
+from model import BAD, valid
 
 PRE = b"# pack-refs with: "
 HEX = b"0123456789abcdefABCDEF"
@@ -88,6 +88,27 @@ class Make:
         peeled = b"^" + self.id(kind, harm) + self.eol(harm) if r.random() < 0.25 else b""
         return self.id(kind, harm) + space + self.name(harm) + self.eol(harm) + peeled
 
+    def bad_line(self, kind, name=None):
+        """A record of which one part is bad, or two, or three: id, space, name, line end, `^` line."""
+        r = self.r
+        bad = r.sample(range(5), r.choice([1, 1, 1, 2, 2, 2, 3]))
+        digits = self.digits(DIGITS[kind])
+        form = lambda part, good, *others: self.one_of(*others) if part in bad else good
+        return (form(0, digits, digits[1:], digits[1:] + b"g", b"g" + digits[1:], b"", self.digits(DIGITS[3 - kind]), self.id(kind, 1))
+                + form(1, b" ", b"", b"\t", b"0 ", b"\r", b"\n", b"\0", b"_")
+                + form(2, self.name(0) if name is None else name, b"", b"refs", b"refs//a", b"refs/a..b", self.name(1), self.name(1))
+                + form(3, b"\r\n" if r.random() < 0.2 else b"\n", b"\r", b"", b"\r\r\n", b"\rx\n")
+                + form(4, b"^" + digits + b"\n" if r.random() < 0.2 else b"", self.bad_peeled(kind)))
+
+    def bad_peeled(self, kind, ended=False):
+        """A `^` line whose id or end is bad; if `ended`, one that is a line of its own."""
+        r = self.r
+        digits = self.digits(DIGITS[kind])
+        texts = [b"", b"zz", digits[1:], digits + b"0", digits[1:] + b"g", digits + b" ", digits + b"\r", digits + b"\rx", self.digits(DIGITS[3 - kind])]
+        if ended or r.random() < 0.6:
+            return b"^" + r.choice(texts) + b"\n"
+        return b"^" + r.choice(texts + [b"", b"", b"", digits, digits, digits])
+
     def header(self):
         r = self.r
         if r.random() < 0.4:
@@ -95,17 +116,34 @@ class Make:
         tokens = [self.one_of(b"peeled", b"fully-peeled", b"sorted", b"x", b"", b"Sorted", b"peeled\t", b"sorted\0", b"sor", b"fully-peele", b"sortedx") for _ in range(r.randrange(6))]
         return self.one_of(PRE, PRE, PRE, PRE, PRE, PRE, b"# pack-refs with:", b"#", b"# ", b"# pack-refs with: \t", b"# Pack-refs with: ") + b" ".join(tokens) + self.eol(0.2)
 
-    def rising(self, kind, most=7, harm=0.0):
-        """Records in name order; with harm, a record's id or peeled line may be bad, never its shape."""
+    def records(self, kind, most=7, harm=0.0):
+        """The names of records in name order, and the records; with harm, a record's id or peeled line may be bad, never its shape."""
         r = self.r
         if r.random() < 0.002:
             most = 300
         names = sorted({self.name(0) for _ in range(r.randrange(most))})
-        out = []
-        for n in names:
-            e = lambda: b"\r\n" if r.random() < 0.15 else b"\n"
-            out.append(self.shape_id(kind, harm) + b" " + n + e() + (b"^" + self.shape_id(kind, harm) + e() if r.random() < 0.3 else b""))
-        return names, b"".join(out)
+        e = lambda: b"\r\n" if r.random() < 0.15 else b"\n"
+        peeled = lambda: self.bad_peeled(kind, True) if r.random() < harm else b"^" + self.shape_id(kind, harm) + e()
+        return names, [self.shape_id(kind, harm) + b" " + n + e() + (peeled() if r.random() < 0.3 else b"") for n in names]
+
+    def rising(self, kind, most=7, harm=0.0):
+        names, records = self.records(kind, most, harm)
+        return names, b"".join(records)
+
+    def flawed(self, kind, most=7, disorder=0.3):
+        """Records in name order or nearly so, bad lines among them, mostly one; and the records' names."""
+        r = self.r
+        names, lines = self.records(kind, most)
+        if lines and r.random() < disorder:
+            again = r.choice(lines)
+            lines.insert(r.randrange(len(lines) + 1), again)
+            if r.random() < 0.5:
+                lines.remove(again)
+        for _ in range(r.choice([0, 1, 1, 1, 1, 2, 3])):
+            # Last is the only place at which a line that is not ended, or a `^`, is the last of the file.
+            at = len(lines) if r.random() < 0.3 else r.randrange(len(lines) + 1)
+            lines.insert(at, self.bad_line(kind))
+        return names, b"".join(lines)
 
     def shape_id(self, kind, harm):
         i = bytearray(self.digits(DIGITS[kind]))
@@ -119,8 +157,11 @@ class Make:
     def file(self, kind):
         r = self.r
         head = self.header() if r.random() < 0.5 else b""
-        if r.random() < 0.35:
+        k = r.random()
+        if k < 0.25:
             b = self.rising(kind)[1]
+        elif k < 0.5:
+            b = self.flawed(kind)[1]
         else:
             harm = r.choice([0.02, 0.1, 0.3])
             b = b"".join(self.line(kind, harm) for _ in range(r.randrange(6)))
@@ -175,6 +216,35 @@ def names(m):
         yield "n", 1, m.damaged(n) if m.r.random() < 0.3 else n
 
 
+def parts_of_a_record(kind):
+    """Of each part good forms and bad ones: id, space, name, line end, what follows it."""
+    n = DIGITS[kind]
+    one, two = b"1" * n, b"2" * n
+    return ([one, one[1:], one[1:] + b"g", b"", b"1" * DIGITS[3 - kind]], [b" ", b"", b"\t", b"1 "], [b"refs/h", b"", b"refs", b"refs//h"],
+            [b"\n", b"\r\n", b"\r", b"", b"\r\r\n"],
+            [b"", b"^" + two + b"\n", b"^" + two + b"\r\n", b"^", b"^\n", b"^" + two[1:] + b"\n", b"^" + two + b"2\n", b"^" + two, b"^" + two + b"\r", b"^zz\n"])
+
+
+def short_bad_records():
+    """Every combination of these forms, so every pair of bad parts too: alone, behind a record and before one. (kind, bytes, the records' names)"""
+    for kind in (1, 2):
+        before, behind = (b"3" * DIGITS[kind] + b" refs/%b\n" % name for name in (b"g", b"i"))
+        for forms in itertools.product(*parts_of_a_record(kind)):
+            b = b"".join(forms)
+            yield from ((kind, b, [b"refs/h"]), (kind, before + b, [b"refs/g", b"refs/h"]), (kind, b + behind, [b"refs/h", b"refs/i"]))
+
+
+def faulty_records(kind):
+    """A record of the name `refs/h` with each one of the faults 41 to 45 and each two of them, three of each: (the faults, the record)."""
+    digits = b"1" * DIGITS[kind]
+    for faults in [*itertools.combinations(BAD, 1), *itertools.combinations(BAD, 2)]:
+        part = lambda fault, form, good: form if fault in faults else good
+        for id, space, name, end, peeled in (
+                (digits[1:], b"", b"", b"\r\r\n", b"^zz\n"), (digits[1:] + b"g", b"\t", b"refs", b"\r", b"^"),
+                (b"", b"0 ", b"refs//h", b"\rx\n" if 45 in faults else b"", b"^" + digits + b"0\n")):
+            yield faults, part(41, id, digits) + part(42, space, b" ") + part(44, name, b"refs/h") + part(43, end, b"\n") + part(45, peeled, b"")
+
+
 def tokens(kind):
     n = DIGITS[kind]
     return [b"1" * n, b"2" * (n - 1), b" ", b"a/b", b"a/a", b"\n", b"\r", b"^", b"x"]
@@ -195,6 +265,7 @@ def short_files(op):
             for j in (39, 40, 41, 63, 64, 65):
                 for e in (b"\n", b"\r\n", b"\r", b""):
                     yield op, kind, b"a" * i + b" a/b" + e + b"^" + b"B" * j + e
+    yield from ((op, kind, b) for kind, b, _ in short_bad_records())
 
 
 def files(op):
@@ -227,17 +298,26 @@ def short_sought(op):
             b = b"".join(b"1" * n + b" " + x + b"\n" + (b"^" + b"2" * n + b"\n" if w == 2 else b"") for x, w in zip(there, which) if w)
             for name in wanted:
                 yield op, kind, b, name
+    for kind, b, there in short_bad_records():
+        for name in [b""] if op == "p" else there:
+            yield op, kind, b, name
 
 
 def sought(op):
-    """A lookup or a listing: names that are there, names beside them, prefixes of them; now and then bytes that are not in order."""
+    """A lookup or a listing: names that are there, names beside them, prefixes of them; some bad records whose shape can be read, some bytes of one line, now
+    and then bytes that are not in order."""
     def make(m):
         rnd = m.r
         while True:
             kind = m.kind()
-            there, b = m.rising(kind, 12, 0.05 if rnd.random() < 0.3 else 0)
+            there, b = m.rising(kind, 12, rnd.choice([0, 0, 0, 0.05, 0.4]))
             if rnd.random() < 0.1:
+                there = [m.name(0)]
+                b = m.bad_line(kind, there[0])
+            elif rnd.random() < 0.1:
                 b = m.damaged(b)
+            elif there and rnd.random() < 0.05 and not b.split(b"\n")[-2].startswith(b"^"):
+                b += m.bad_peeled(kind)
             k = rnd.randrange(5)
             if there and k < 3:
                 n = rnd.choice(there)
@@ -255,14 +335,18 @@ def asks(m):
     rnd = m.r
     while True:
         kind = m.kind()
-        if rnd.random() < 0.4:
+        k = rnd.random()
+        if k < 0.3:
             there, b = m.rising(kind, 8)
             b = m.one_of(b"", SORTED, m.header()) + b
             if rnd.random() < 0.3:
                 b = m.damaged(b)
+        elif k < 0.7:
+            there, b = m.flawed(kind, 6)
+            b = m.one_of(b"", SORTED) + b
         else:
             there, b = [], m.file(kind)
-        yield "a", kind, b, rnd.choice(there) if there and rnd.random() < 0.6 else m.name(0.1)
+        yield "a", kind, b, rnd.choice(there) if there and rnd.random() < 0.7 else m.name(0.1)
 
 
 def short_merges():
@@ -277,6 +361,13 @@ def short_merges():
                     edits = [("d" if w == 1 else "u", x) + (b"\x33" * (n // 2), b"\x44" * (n // 2))[:w - 1] for x, w in zip(names, done) if w]
                     for order in itertools.permutations(edits):
                         yield "m", kind, old, list(order), 3, 500
+    yield from short_flawed_merges()
+
+
+def short_flawed_merges():
+    """One update of an old file with a bad record."""
+    for kind, old, _ in short_bad_records():
+        yield "m", kind, old, [("u", b"refs/j", b"\x55" * (DIGITS[kind] // 2))], 1, 500
 
 
 def merges(m):
@@ -284,7 +375,7 @@ def merges(m):
     rnd = m.r
     while True:
         kind = m.kind()
-        there, b = m.rising(kind, 8)
+        there, b = m.flawed(kind, 8, 0.05) if rnd.random() < 0.2 else m.rising(kind, 8)
         pool = list(dict.fromkeys(there + [m.name(0) for _ in range(rnd.randrange(4))]))
         rnd.shuffle(pool)
         edits = [m.edit(kind, n) for n in pool[:rnd.randrange(len(pool) + 1)]]
@@ -327,7 +418,7 @@ def lists(m):
     while True:
         n += 1
         kind = m.kind()
-        there, b = m.rising(kind, 4)
+        there, b = m.flawed(kind, 4) if rnd.random() < 0.15 else m.rising(kind, 4)
         pool = there + [m.name(0.05) or b"x" for _ in range(rnd.randrange(4))]
         rnd.shuffle(pool)
         edits = [m.edit(kind, x) for x in pool]

@@ -1,7 +1,10 @@
-"""A merge as document 01 has it, for what the port adds and the Rust therefore can't be asked: edit lists as bytes, 7 to 12, the index. Written from
-the document's text, and the name rules with document 02's request Four."""
+"""Documents 01 and 02 as a program, for what the Rust can't be asked: which part of a record is bad (document 02's request Six; the Rust has one error for
+all five), and what the port adds: the check, `ask`, edit lists as bytes, 7 to 12, the index. Written from the documents' sentences, the name rules with
+request Four, and `ask` from the comments of include/packed_refs.h. Nothing is taken over from the library. Answers have the one-line form."""
 DIGITS = {1: 40, 2: 64}
 LIMIT = 4096
+# Why a record is bad: its first id, no space, its line not ended properly, its name, its `^` line.
+BAD = (41, 42, 43, 44, 45)
 
 
 def valid(n):
@@ -9,6 +12,141 @@ def valid(n):
     return (len(parts) > 1 and all(parts) and not any(c.startswith(b".") or c.endswith(b".lock") for c in parts) and b".." not in n
             and not any(b < 32 or b == 127 or b in b" ~^:?*[\\" for b in n) and not n.endswith(b".") and b"@{" not in n)
 
+
+# ---- Parts of a line. Each gives the place behind the part, or None where it can't be read.
+
+def id_end(b, kind, at):
+    end = at + DIGITS[kind]
+    return end if end <= len(b) and all(c in b"0123456789abcdefABCDEF" for c in b[at:end]) else None
+
+
+def line_end(b, at):
+    """A line end is LF or CR LF."""
+    return at + 1 if b[at:at + 1] == b"\n" else at + 2 if b[at:at + 2] == b"\r\n" else None
+
+
+def text_end(b, at):
+    """Text runs to the first CR or LF."""
+    while at < len(b) and b[at] not in b"\r\n":
+        at += 1
+    return at
+
+
+def record(b, kind, at):
+    """The record that begins at a place: place and length of its name, place of its peeled id or 0, the place behind it. Or why it is bad: the first
+    part that can't be read, in request Six's order, which has the line's end before the name."""
+    space = id_end(b, kind, at)
+    if space is None:
+        return 41
+    if b[space:space + 1] != b" ":
+        return 42
+    name_at = space + 1
+    name_end = text_end(b, name_at)
+    behind = line_end(b, name_end)
+    if behind is None:
+        return 43
+    if not valid(b[name_at:name_end]):
+        return 44
+    peeled_at = 0
+    if b[behind:behind + 1] == b"^":
+        peeled_at = behind + 1
+        end = id_end(b, kind, peeled_at)
+        behind = None if end is None else line_end(b, end)
+        if behind is None:
+            return 45
+    return name_at, name_end - name_at, peeled_at, behind
+
+
+def behind_header(b):
+    """(the place behind the header, None), 0 without one; or (None, the length of number 2's text)."""
+    if b[:1] != b"#":
+        return 0, None
+    lf = b.find(b"\n")
+    line = b if lf < 0 else b[:lf].removesuffix(b"\r")
+    if not b.startswith(b"# pack-refs with: ") or lf < 0 or b"\r" in line:
+        return None, len(line)
+    return lf + 1, None
+
+
+def covered(b, at):
+    """Where an error that begins at a place ends: it covers through the next LF, or the rest if none."""
+    lf = b.find(b"\n", at)
+    return len(b) if lf < 0 else lf + 1
+
+
+# ---- Whole files
+
+def items_from(b, kind, at, number):
+    """('r', start, place and length of the name, place of the peeled id or 0, next place) or ('e', start, why, item number, length of the text, next
+    place) of each item. An error's text is the covered bytes less the last one."""
+    out = []
+    while at < len(b):
+        r = record(b, kind, at)
+        if r in BAD:
+            end = covered(b, at)
+            out.append(("e", at, r, number, end - 1 - at, end))
+        else:
+            out.append(("r", at) + r)
+        at = out[-1][-1]
+        number += 1
+    return out
+
+
+def file_items(b, kind):
+    """(place, number, items) of a whole file, whose item numbers begin behind the header; or the length of number 2's text."""
+    at, text = behind_header(b)
+    if at is None:
+        return text
+    number = 2 if at else 1
+    return at, number, items_from(b, kind, at, number)
+
+
+def spelled(b, place, number, items):
+    return f"0 {place} {number}" + "".join(" " + " ".join(map(str, i)) for i in items) + f" . {len(b)} {number + len(items)}"
+
+
+def iteration(kind, b):
+    f = file_items(b, kind)
+    return f"2 {f}" if isinstance(f, int) else spelled(b, *f)
+
+
+def first_fault(b, items):
+    """What the check says of a file's items: the first error, or the first record whose name isn't greater than the one before; else the count."""
+    last = b""
+    for i in items:
+        if i[0] == "e":
+            return f"{i[2]} {i[1]}"
+        name = b[i[2]:i[2] + i[3]]
+        if not last < name:
+            return f"6 {i[1]}"
+        last = name
+    return f"0 {len(items)}"
+
+
+def check(kind, b):
+    f = file_items(b, kind)
+    return f"2 {f}" if isinstance(f, int) else first_fault(b, f[2])
+
+
+def answered(b, items, name):
+    """What `ask` says from a file's items: the first record of the name, whatever else stands in the file, and beside it the check's number of the whole
+    file; else 5 only if the file passes the check; else what the check says."""
+    said = first_fault(b, items)
+    number = said.split(" ")[0]
+    for i in items:
+        if i[0] == "r" and b[i[2]:i[2] + i[3]] == name:
+            return f"0 {i[1]} {i[2]} {i[3]} {i[4]} {number}"
+    return "5" if number == "0" else said
+
+
+def ask(kind, b, name):
+    if not valid(name):
+        return "3"
+    f = file_items(b, kind)
+    return f"2 {f}" if isinstance(f, int) else answered(b, f[2], name)
+
+
+# ---- Edits and merge
 
 def edits_of(e, kind):
     """(edits, None) or (.., (number, place)); an edit is (place, name, id or None, peeled id or None)."""
@@ -42,50 +180,13 @@ def edits_of(e, kind):
 
 
 def records_of(b, kind):
-    """('2', length) or (records, None) or (.., (number, place)); a record is (name, id, peeled or None)."""
+    """(id, peeled id or None) of each name in a file that passes the check."""
     n = DIGITS[kind]
-    at = 0
-    if b[:1] == b"#":
-        lf = b.find(b"\n")
-        line = b if lf < 0 else b[:lf].removesuffix(b"\r")
-        if not b.startswith(b"# pack-refs with: ") or lf < 0 or b"\r" in line:
-            return None, (2, len(line))
-        at = lf + 1
-
-    def ident(at):
-        return at + n if all(c in b"0123456789abcdefABCDEF" for c in b[at:at + n]) and at + n <= len(b) else None
-
-    def line_end(at):
-        return at + 2 if b[at:at + 2] == b"\r\n" else at + 1 if b[at:at + 1] == b"\n" else None
-
-    out, last = [], b""
-    while at < len(b):
-        start = at
-        end = ident(at)
-        if end is None or b[end:end + 1] != b" ":
-            return out, (4, start)
-        stop = end + 1
-        while stop < len(b) and b[stop] not in b"\r\n":
-            stop += 1
-        name, peeled = b[end + 1:stop], None
-        at = line_end(stop)
-        if at is None or not valid(name):
-            return out, (4, start)
-        if b[at:at + 1] == b"^":
-            stop = ident(at + 1)
-            peeled = b[at + 1:stop]
-            at = None if stop is None else line_end(stop)
-            if at is None:
-                return out, (4, start)
-        if not last < name:
-            return out, (6, start)
-        out.append((name, b[start:end], peeled))
-        last = name
-    return out, None
+    return {b[name_at:name_at + length]: (b[at:at + n], b[peeled_at:peeled_at + n] if peeled_at else None)
+            for _, at, name_at, length, peeled_at, _ in file_items(b, kind)[2]}
 
 
 def merge(kind, old, e, index_len, out_len):
-    """The answer in the one-line form."""
     edits, fault = edits_of(e, kind)
     if fault:
         return f"{fault[0]} {fault[1]} x"
@@ -96,18 +197,18 @@ def merge(kind, old, e, index_len, out_len):
     for a, b in zip(order, order[1:]):
         if a[1] == b[1]:
             return f"11 {b[0]}" + ix
-    records, fault = records_of(old, kind)
-    if fault:
-        return f"{fault[0]} {fault[1]}" + ix
-    there = {r[0]: r for r in records}
+    said = check(kind, old)
+    if not said.startswith("0 "):
+        return said + ix
+    there = records_of(old, kind)
     if not any(x[2] is not None or x[1] in there for x in edits):
         return "13" + ix
-    for x in edits:
-        there.pop(x[1], None)
-        if x[2] is not None:
-            there[x[1]] = (x[1], x[2].hex().encode(), None if x[3] is None else x[3].hex().encode())
+    for _, name, target, peeled in edits:
+        there.pop(name, None)
+        if target is not None:
+            there[name] = target.hex().encode(), None if peeled is None else peeled.hex().encode()
     if not there:
         return "14" + ix
     new = b"# pack-refs with: peeled fully-peeled sorted \n" + b"".join(
-        i + b" " + n + b"\n" + (b"" if p is None else b"^" + p + b"\n") for n, i, p in (there[k] for k in sorted(there)))
+        i + b" " + n + b"\n" + (b"" if p is None else b"^" + p + b"\n") for n, (i, p) in sorted(there.items()))
     return ("12" if out_len < len(new) else f"0 {len(new)} {new.hex()}") + ix

@@ -73,23 +73,37 @@ static struct bytes given(void) {
     return b;
 }
 
+static int bad(uint32_t number) {
+    return number >= 41 && number <= 45;
+}
+
+/* Ends an answer's line. A field that should be 0 beside the answer's number and isn't must not stay hidden. */
+static void end_of_answer(int gave_more) {
+    printf(gave_more ? " gave more\n" : "\n");
+}
+
 static void items(uint32_t kind, struct bytes b, struct bytes prefix, int plain, size_t place, uint64_t item) {
     printf("0 %zu %" PRIu64, place, item);
     for (;;) {
         struct packed_refs_step_reply r = plain ? packed_refs_step(kind, b.at, b.len, place, item)
                                                 : packed_refs_step_prefix(kind, b.at, b.len, prefix.at, prefix.len, place, item);
+        int of_record = r.name_at || r.name_len || r.peeled_at, of_error = r.why || r.error || r.text_len;
         if (r.number != 0) {
-            printf(" refused %u\n", r.number);
+            printf(" refused %u", r.number);
+            end_of_answer(r.what || r.start || r.next || r.item || of_record || of_error);
             return;
         }
         if (r.what == 0) {
-            printf(" . %zu %" PRIu64 "\n", r.next, r.item);
+            printf(" . %zu %" PRIu64, r.next, r.item);
+            end_of_answer(r.start || of_record || of_error);
             return;
         }
         if (r.what == 1)
             printf(" r %zu %zu %zu %zu %zu", r.start, r.name_at, r.name_len, r.peeled_at, r.next);
         else
-            printf(" e %zu %" PRIu64 " %zu %zu", r.start, r.error, r.text_len, r.next);
+            printf(" e %zu %" PRIu32 " %" PRIu64 " %zu %zu", r.start, r.why, r.error, r.text_len, r.next);
+        if (r.what == 1 ? of_error : of_record)
+            printf(" gave more");
         if (r.next <= place || r.item != item + 1) {
             printf(" stuck\n");
             return;
@@ -111,6 +125,7 @@ static void merge(uint32_t kind) {
         index[i] = UINT32_MAX;
     memset(out, 0xa5, out_len);
     struct packed_refs_merge_reply r = packed_refs_merge(kind, old.at, old.len, edits.at, edits.len, index, index_len, out, out_len);
+    int beside_place = bad(r.number) || (r.number >= 6 && r.number <= 9) || r.number == 11;
     if (r.number == 0) {
         printf("0 %zu ", r.length);
         if (r.length > out_len)
@@ -119,7 +134,7 @@ static void merge(uint32_t kind) {
             printf("%02x", out[i]);
     } else if (r.number == 2) {
         printf("2 %zu", r.text_len);
-    } else if (r.number == 4 || r.number == 6 || r.number == 7 || r.number == 8 || r.number == 9 || r.number == 11) {
+    } else if (beside_place) {
         printf("%u %zu", r.number, r.place);
     } else {
         printf("%u", r.number);
@@ -138,9 +153,7 @@ static void merge(uint32_t kind) {
         }
     if (memcmp(old.at, old_kept.at, old.len) || memcmp(edits.at, edits_kept.at, edits.len))
         printf(" wrote input");
-    if ((r.number != 0 && r.length) || (r.number != 2 && r.text_len) || ((r.number == 0 || r.number == 2 || r.number > 11) && r.place))
-        printf(" gave more");
-    printf("\n");
+    end_of_answer((r.number != 0 && r.length) || (r.number != 2 && r.text_len) || (!beside_place && r.place));
     free(old.at), free(edits.at), free(index), free(out), free(old_kept.at), free(edits_kept.at);
 }
 
@@ -184,40 +197,46 @@ static void answer(char op, uint32_t kind) {
     case 'c': {
         b = given();
         struct packed_refs_check_reply r = packed_refs_check(kind, b.at, b.len);
+        int beside_place = bad(r.number) || r.number == 6;
         if (r.number == 0)
-            printf("0 %zu\n", r.count);
+            printf("0 %zu", r.count);
         else if (r.number == 2)
-            printf("2 %zu\n", r.text_len);
-        else if (r.number == 4 || r.number == 6)
-            printf("%u %zu\n", r.number, r.place);
+            printf("2 %zu", r.text_len);
+        else if (beside_place)
+            printf("%u %zu", r.number, r.place);
         else
-            printf("%u\n", r.number);
+            printf("%u", r.number);
+        end_of_answer((r.number != 0 && r.count) || (r.number != 2 && r.text_len) || (!beside_place && r.place));
         free(b.at);
         return;
     }
     case 'f': {
         b = given(), name = given();
         struct packed_refs_lookup_reply r = packed_refs_lookup(kind, b.at, b.len, name.at, name.len);
+        int of_record = r.name_at || r.name_len || r.peeled_at;
         if (r.number == 0)
-            printf("0 %zu %zu %zu %zu\n", r.place, r.name_at, r.name_len, r.peeled_at);
-        else if (r.number == 4)
-            printf("4 %zu\n", r.place);
+            printf("0 %zu %zu %zu %zu", r.place, r.name_at, r.name_len, r.peeled_at);
+        else if (bad(r.number))
+            printf("%u %zu", r.number, r.place);
         else
-            printf("%u\n", r.number);
+            printf("%u", r.number);
+        end_of_answer(r.number != 0 && (of_record || (!bad(r.number) && r.place)));
         free(b.at), free(name.at);
         return;
     }
     case 'a': {
         b = given(), name = given();
         struct packed_refs_ask_reply r = packed_refs_ask(kind, b.at, b.len, name.at, name.len);
+        int beside_place = bad(r.number) || r.number == 6, of_record = r.name_at || r.name_len || r.peeled_at || r.fault;
         if (r.number == 0)
-            printf("0 %zu %zu %zu %zu\n", r.place, r.name_at, r.name_len, r.peeled_at);
+            printf("0 %zu %zu %zu %zu %" PRIu32, r.place, r.name_at, r.name_len, r.peeled_at, r.fault);
         else if (r.number == 2)
-            printf("2 %zu\n", r.text_len);
-        else if (r.number == 4 || r.number == 6)
-            printf("%u %zu\n", r.number, r.place);
+            printf("2 %zu", r.text_len);
+        else if (beside_place)
+            printf("%u %zu", r.number, r.place);
         else
-            printf("%u\n", r.number);
+            printf("%u", r.number);
+        end_of_answer((r.number != 0 && (of_record || (!beside_place && r.place))) || (r.number != 2 && r.text_len));
         free(b.at), free(name.at);
         return;
     }
@@ -308,7 +327,7 @@ static void limits(void) {
     /* The largest item number stays. */
     uint8_t line_feed = '\n';
     struct packed_refs_step_reply r = packed_refs_step(1, &line_feed, 1, 0, UINT64_MAX);
-    want("the largest item number", 1, r.what == 2 && r.error == UINT64_MAX && r.item == UINT64_MAX);
+    want("the largest item number", 1, r.what == 2 && r.why == 41 && r.error == UINT64_MAX && r.item == UINT64_MAX);
     munmap(big, most + 1);
     printf("limits: %u asked, %u wrong\n", asked, wrong);
 }

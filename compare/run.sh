@@ -1,9 +1,8 @@
 #!/usr/bin/env bash
 # compare/run.sh [COUNT [SEED]]: builds the library and compares it with the Rust on every short input and COUNT random ones an operation (default
 # 100,000, about four minutes); names also with Git. Not part of the gate, since it needs the oracle: the real gix-ref 0.67.1 as a program.
-#   ORACLE    the oracle's program, which is not part of this repository; its own README says how it is built
-#   LIBHOST   the library (default: target/staticlib/libhost.a, made by ./libhost)
-#   INCLUDE   where packed_refs.h is (default: include)
+#   ORACLE             the oracle's program, which is not part of this repository; its own README says how it is built
+#   LIBHOST, INCLUDE   the library and its header, as compare/build-ours.sh has them
 set -eu
 root=$(cd "$(dirname "$0")/.." && pwd)
 if ! command -v "${ORACLE:-}" >/dev/null; then
@@ -12,14 +11,9 @@ if ! command -v "${ORACLE:-}" >/dev/null; then
     exit 1
 fi
 export ORACLE
-if [ -z "${LIBHOST:-}" ]; then
-    mkdir -p "$root/target"
-    "$root/libhost" >"$root/target/compare.log" 2>&1 || { tail -n 20 "$root/target/compare.log"; exit 1; }
-    LIBHOST=$root/target/staticlib/libhost.a
-fi
 room=$(mktemp -d)
 trap 'rm -rf "$room"' EXIT
 export OURS=$room/ours
-cc -O2 -Wall -Wextra -Werror -I"${INCLUDE:-$root/include}" -o "$OURS" "$root/compare/ours.c" "$LIBHOST"
+"$root/compare/build-ours.sh" "$OURS"
 "$OURS" limits
 PYTHONDONTWRITEBYTECODE=1 python3 "$root/compare/compare.py" "$@"

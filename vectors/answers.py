@@ -1,11 +1,14 @@
 #!/usr/bin/env python3
-"""answers.py DIR: writes DIR/data/questions and DIR/stdout for crates/replay (vectors/README.md says how). ORACLE: the oracle's program."""
+"""answers.py DIR: writes DIR/data/questions and DIR/stdout for crates/replay (vectors/README.md says how). ORACLE: the oracle's program. GIT_VERIFY: a Git
+whose `git refs verify` reads packed-refs."""
 import collections, itertools, json, os, random, subprocess, sys
 
 sys.path.insert(0, os.path.join(os.path.dirname(os.path.abspath(__file__)), "..", "compare"))
-import git_names, inputs, model
+import git_names, git_verify, inputs, model
 from answers import asked, edit_bytes, expected, outside
+from compare import told_beside
 
+LF = b"\n"
 # Operation, title, every short input, random ones, how many lines of each.
 GROUPS = [
     ("header", inputs.short_headers(), inputs.headers, 120, 130), ("name", inputs.short_names(), inputs.names, 100, 100),
@@ -38,13 +41,22 @@ def oracle(questions):
 
 
 def chosen(rnd, questions, count, answer_of):
-    """So many, and of each number of answer a fair share."""
+    """So many, and of each number of answer, and of each number told beside it, a fair share."""
     by = collections.defaultdict(list)
     for q, a in answer_of(questions):
         text = asked_of(q, a)
-        # The program has room for so much.
-        if sum(map(len, text)) < 1000 and all(x <= 60000 for x in q[2:] if isinstance(x, int) and q[0] == "m"):
-            by[a.split(" ")[0] if q[0] != "s" else "", min(a.count(" e "), 2), min(a.count(" r "), 2)].append(text)
+        if fits(text) and all(x <= 60000 for x in q[2:] if isinstance(x, int) and q[0] == "m"):
+            beside = told_beside(q[0], a)
+            by[a.split(" ")[0] if q[0] != "s" else "", min(a.count(" e "), 2), min(a.count(" r "), 2), beside[0] if beside else ""].append(text)
+    return fair_share(rnd, by, count)
+
+
+def fits(text):
+    """The program has room for so much."""
+    return sum(map(len, text)) < 1000
+
+
+def fair_share(rnd, by, count):
     out = []
     for k in by:
         rnd.shuffle(by[k])
@@ -87,6 +99,54 @@ def in_each_place(names):
         yield "l", 1, b"ref: " + name + b"\n"
 
 
+def good_record(kind, name):
+    return b"3" * model.DIGITS[kind] + b" " + name + b"\n"
+
+
+def bad_records():
+    """A record with each fault and each two of them: iterated, with a record behind it if its line is ended; checked behind a record; looked up; asked for; in
+    a merge."""
+    for kind in (1, 2):
+        for faults, bad in inputs.faulty_records(kind):
+            if model.record(bad, kind, 0) != faults[0]:
+                raise SystemExit(f"{bad!r}: the first of {faults} has to count")
+            yield "i", kind, bad + (good_record(kind, b"refs/i") if bad.endswith(LF) else b"")
+            yield "c", kind, good_record(kind, b"refs/g") + bad
+            yield "f", kind, bad, b"refs/h"
+            yield "a", kind, bad, b"refs/h"
+            yield "m", kind, bad, [("u", b"refs/j", b"\x55" * (model.DIGITS[kind] // 2))], 1, 200
+
+
+def charted():
+    """A record that is there in a file with a fault before it, behind it or on both sides, out of order, twice; and in one without a fault."""
+    for kind in (1, 2):
+        g, h, i = (good_record(kind, name) for name in (b"refs/g", b"refs/h", b"refs/i"))
+        peeled = b"^" + b"4" * model.DIGITS[kind] + b"\r\n"
+        bad = [b for faults, b in inputs.faulty_records(kind) if len(faults) == 1 and b.endswith(b"\n")]
+        files = [head + b for head in (b"", inputs.SORTED) for b in (
+            h, g + h + peeled + i, h + g, i + h + g, g + i + h, h + h, h + peeled + h, h + h + peeled, g + h + i + h, h + g + b"x\n", b"x\n" + h + g)]
+        files += [b for x in bad for b in (x + i, g + x, g + x + i, i + g + x, x + i + g, g + x + x)]
+        for b in files:
+            yield from (("a", kind, b, name) for name in (b"refs/g", b"refs/h", b"refs/i"))
+
+
+def first_faults_by_git(rnd, count):
+    """The check of files whose first fault Git names with the same number and line; the line's place is counted. Of the rows of compare/git_verify.py one may
+    turn them: of a bad `^` line Git names that line, and the record begins a line before."""
+    git = git_verify.Git(os.environ["GIT_VERIFY"])
+    by = collections.defaultdict(list)
+    for kind, b in itertools.islice(git_verify.files(inputs.Make(rnd)), 2000):
+        said = model.check(kind, b)
+        if said.startswith("2 ") or not set(git_verify.Turned(kind, b, said, model.file_items(b, kind)[2]).rows) <= {"peeled line named"}:
+            continue
+        for line, number in git.faults(kind, b)[:1]:
+            lines_before = line - (2 if number == 45 else 1)
+            text = asked_of(("c", kind, b), f"{number} {sum(len(x) + 1 for x in b.split(LF)[:lines_before])}")
+            if fits(text):
+                by[number].append(text)
+    return fair_share(rnd, by, count)
+
+
 def main():
     questions, answers, counts = [], [], collections.Counter()
 
@@ -114,10 +174,14 @@ def main():
         group(f"{what}, gix-ref 0.67.1", asked + chosen(rnd, list(itertools.islice(make(inputs.Make(rnd)), 6000)), n_random, theirs), "the Rust")
     group("names and edits around the limits, gix-ref 0.67.1", [asked_of(q, a) for q, a in theirs(list(long_ones()))], "the Rust")
     group("lock names in each place, gix-ref 0.67.1", [asked_of(q, a) for q, a in theirs(list(in_each_place(git_names.LOCKS_IN_EACH_PLACE)))], "the Rust")
+    group("bad records: each fault and each two, gix-ref 0.67.1 (that it is bad) and a model of documents 01 and 02 (which part)",
+          [asked_of(q, a) for q, a in theirs(list(bad_records()))], "the Rust")
+    group("charted in a damaged file, gix-ref 0.67.1 and a model of documents 01 and 02", [asked_of(q, a) for q, a in theirs(list(charted()))], "the Rust")
+    group("the first fault of a damaged file, Git's refs verify", first_faults_by_git(random.Random("vectors for Git's verdict"), 120), "Git")
     rnd = random.Random("vectors lists")
     of_model = lambda questions: [(q, model.merge(*q[1:])) for q in questions]
     asked = chosen(rnd, list(itertools.islice(inputs.lists(inputs.Make(rnd)), 6000)), 300, of_model)
-    group("what the port adds to the merge (edit lists as bytes, 7 to 12, the index), by a model of document 01", asked, "the model")
+    group("what the port adds to the merge (edit lists as bytes, 7 to 12, the index), by a model of documents 01 and 02", asked, "the model")
     for name, texts in ("data/questions", questions), ("stdout", answers):
         with open(os.path.join(sys.argv[1], name), "wb") as f:
             f.writelines(texts)
