@@ -1,11 +1,10 @@
 -- One turn of seeking a name among the items, alone and beside the check. For any classes.
-use mathlib.Core.Path.{_≡_, refl, ap, _∙_}
-use mathlib.Core.Bool.{Bool, true, false}
+use mathlib.Core.Path.{_≡_, ap, _∙_}
+use mathlib.Core.Bool.{true, false}
 use mathlib.Core.List.{List}
 use Prim.Native.Nat.{ℕ, suc, _+_, _≤_}
 use lib.ListN.{length, drop, drop-of-length-le}
 use Rattle.class.specs.Class.{Classes}
-use Rattle.parse.specs.Choice.{if}
 use Rattle.parse.specs.Line.{lineLen}
 use Rattle.compare.specs.Prefix.{same}
 use Rattle.decode.specs.declared.reference.Fault.{Fault}
@@ -13,17 +12,15 @@ use Rattle.decode.specs.declared.reference.Record.{Record}
 use Rattle.decode.specs.declared.reference.Reading.the-variants.{Good, Bad}
 use Rattle.checks.specs.declared.Turn.{Turn}
 use Rattle.checks.specs.declared.Turn.the-variants.{End, On}
-use Rattle.iter.specs.Items.{items}
-use Rattle.checks.specs.Check.{judge}
+use Rattle.checks.specs.Check.{judgeFrom}
 use Rattle.iter.proofs.Items.{items-nil}
 use Rattle.iter.proofs.ItemRead.{Reads, named}
 use Rattle.iter.proofs.Turns.{head-bad, head-good}
 use Rattle.checks.proofs.CheckTurns.{Spot, Turned, judgedAfter, judged}
-use Rattle.checks.specs.declared.Verdict.the-variants.{Clean}
-use Rattle.ask.specs.declared.Sought.{Sought}
 use Rattle.ask.specs.declared.Sought.the-variants.{At, Nowhere}
 use Rattle.ask.specs.declared.Told.{Told}
-use Rattle.ask.specs.Ask.{soughtFrom, toldOf, orElse}
+use Rattle.ask.specs.declared.Told.the-variants.{Charted, Absent}
+use Rattle.ask.specs.Ask.{soughtFrom, toldOf}
 
 -- ---- seeking alone
 
@@ -45,44 +42,30 @@ module _ {byte : Classes} {n : ℕ} {file : List ℕ} {place : ℕ} (name : List
     unfolding soughtFrom
     seek-other s = let h = head-good byte n file place r (k .is) (k .inside) in rw (h .all, h .is, h .name, s, h .long)
 
-    -- both: this record, or else what is sought behind it
-    pub seek-on : soughtFrom byte n file place name ≡ orElse (if (same name (named k)) (At place r) Nowhere) (soughtFrom byte n file (place + r .size) name)
-    seek-on = go (same name (named k)) refl
-      where
-        go : (b : Bool) → same name (named k) ≡ b
-            → soughtFrom byte n file place name ≡ orElse (if b (At place r) Nowhere) (soughtFrom byte n file (place + r .size) name)
-        go true s = seek-found s
-        go false s = seek-other s
-
 -- ---- beside the check
 
-or-nowhere : (x : Sought) → orElse x Nowhere ≡ x
-or-nowhere (At place r) = refl
-or-nowhere Nowhere = refl
+-- what the items from the place on come to, with how many records stood before them and the name of the last
+abbrev pub askFrom : Classes → ℕ → List ℕ → List ℕ → ℕ → ℕ → List ℕ → Told
+askFrom byte n file name place count last = toldOf (soughtFrom byte n file place name) (judgeFrom byte n file place count last)
 
-or-or : (x y z : Sought) → orElse x (orElse y z) ≡ orElse (orElse x y) z
-or-or (At place r) y z = refl
-or-or Nowhere y z = refl
-
--- what the items from the place on come to, with what was found before them, how many records stood there and the name of the last
-abbrev pub askFrom : Classes → ℕ → List ℕ → List ℕ → Sought → ℕ → ℕ → List ℕ → Told
-askFrom byte n file name found place count last =
-    toldOf (orElse found (soughtFrom byte n file place name)) (judge n place count last (items byte n (drop place file)))
-
-module _ (s : Spot) (name : List ℕ) (found : Sought) (count : ℕ) where
+module _ (s : Spot) (name : List ℕ) (count : ℕ) where
   abbrev pub askAt : Told
-  askAt = askFrom (s .byte) (s .n) (s .file) name found (s .place) count (s .last)
+  askAt = askFrom (s .byte) (s .n) (s .file) name (s .place) count (s .last)
 
   -- after a turn
-  pub ask-turn : (w : Turn) → Turned s w → askAt ≡ toldOf (orElse found (soughtFrom (s .byte) (s .n) (s .file) (s .place) name)) (judgedAfter s count w)
-  ask-turn w k = ap (toldOf (orElse found (soughtFrom (s .byte) (s .n) (s .file) (s .place) name))) (judged s count w k)
+  pub ask-turn : (w : Turn) → Turned s w → askAt ≡ toldOf (soughtFrom (s .byte) (s .n) (s .file) (s .place) name) (judgedAfter s count w)
+  ask-turn w k = ap (toldOf (soughtFrom (s .byte) (s .n) (s .file) (s .place) name)) (judged s count w k)
 
-  pub ask-end : Turned s End → askAt ≡ toldOf found (Clean count)
-  ask-end k = ask-turn End k ∙ rw (seek-end (s .byte) (s .n) (s .file) name (s .place) k, or-nowhere found)
+  pub ask-end : Turned s End → askAt ≡ Absent
+  ask-end k = ask-turn End k ∙ rw (seek-end (s .byte) (s .n) (s .file) name (s .place) k)
 
-  -- the loop goes on with the name as it was cut out
-  pub ask-on : (r : Record) (k : Turned s (On r)) (x : List ℕ) → x ≡ named (k .0)
-      → askAt ≡ askFrom (s .byte) (s .n) (s .file) name (orElse found (if (same name x) (At (s .place) r) Nowhere)) (s .place + r .size) (suc count) x
-  ask-on r k x e =
-      ask-turn (On r) k
-      ∙ rw (e, seek-on name (k .0), or-or found (if (same name (named (k .0))) (At (s .place) r) Nowhere) (soughtFrom (s .byte) (s .n) (s .file) (s .place + r .size) name))
+  module _ (r : Record) (k : Turned s (On r)) where
+    -- the check goes on with the name as it was cut out
+    pub ask-found : (x : List ℕ) → x ≡ named (k .0) → same name (named (k .0)) ≡ true
+        → askAt ≡ Charted (s .place) r (judgeFrom (s .byte) (s .n) (s .file) (s .place + r .size) (suc count) x)
+    ask-found x e found = ask-turn (On r) k ∙ rw (e, seek-found name (k .0) found)
+
+    -- and so does the loop
+    pub ask-on : (x : List ℕ) → x ≡ named (k .0) → same name (named (k .0)) ≡ false
+        → askAt ≡ askFrom (s .byte) (s .n) (s .file) name (s .place + r .size) (suc count) x
+    ask-on x e other = ask-turn (On r) k ∙ rw (e, seek-other name (k .0) other)

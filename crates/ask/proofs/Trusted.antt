@@ -7,6 +7,10 @@ use Prim.Native.Nat.{ℕ, _+_}
 use native.Mathlib.Omega.{arith}
 use lib.ListN.{length, drop}
 use Rattle.class.specs.Class.{paper}
+use Rattle.parse.specs.declared.limit.Admission.{Admission}
+use Rattle.parse.specs.declared.limit.Admission.the-variants as admitted
+use Rattle.parse.specs.Limit.{overLimit, admission}
+use Rattle.parse.proofs.Admitted.{admits, asked as admission-asked}
 use Rattle.name.specs.Name.{validName}
 use Rattle.header.specs.declared.Header.{Header}
 use Rattle.header.specs.declared.Opened.{Opened}
@@ -18,16 +22,18 @@ use Rattle.checks.specs.declared.Verdict.the-variants as verdict
 use Rattle.checks.specs.declared.Refusal.{Refusal}
 use Rattle.checks.specs.declared.Refusal.the-variants.{BadHeader}
 use Rattle.iter.specs.Items.{items, bytesOf}
-use Rattle.checks.specs.Check.{judge, judgeBody, checkOf, verdictNumber}
+use Rattle.checks.specs.Check.{judge, judgeBody, checkOf, checkAnswer, verdictNumber, checkNumber}
 use Rattle.checks.proofs.Ascending.{one-named}
 use Rattle.checks.proofs.Passes.{judged as holds}
-use Rattle.checks.proofs.CheckMeans.{read, zero-clean}
+use Rattle.checks.proofs.CheckMeans.{read, some-refusal, zero-clean}
 use Rattle.ask.specs.declared.Sought.{Sought}
 use Rattle.ask.specs.declared.Sought.the-variants.{At, Nowhere}
+use Rattle.ask.specs.declared.Told.{Told}
 use Rattle.ask.specs.declared.Told.the-variants as told
-use Rattle.ask.specs.Ask.{firstNamed, soughtFrom, toldOf, askBody, askOf}
+use Rattle.ask.specs.declared.AskAnswer.the-variants as answer
+use Rattle.ask.specs.Ask.{firstNamed, soughtFrom, toldOf, askBody, askOf, askAnswer, askNumber, askFault}
 use Rattle.iter.specs.Stands.{Named}
-use Rattle.ask.specs.Trusted.{AskIsTrusted}
+use Rattle.ask.specs.Trusted.{AskIsTrusted, FaultIsTheChecks}
 use Rattle.ask.proofs.FirstNamed.{NamedAmong, told-at, told-nowhere}
 
 -- only a clean verdict says absent
@@ -162,3 +168,26 @@ trusted n file name =
       there = there n file name;
       otherwise = otherwise n file name;
     }
+
+-- ---- what callers get
+
+pub fault-is-the-checks : FaultIsTheChecks
+unfolding askAnswer checkAnswer overLimit
+fault-is-the-checks kind file name = by-kind (admission kind (length file) (length name)) refl
+  where
+    -- the check is lent the file alone
+    same-digits : (n : ℕ) → admission kind (length file) (length name) ≡ admitted.Digits n → admission kind (length file) 0 ≡ admitted.Digits n
+    same-digits n e = let (digits, small, short) = admission-asked kind (length file) (length name) n e in admits kind (length file) 0 digits small refl
+
+    by-told : (n : ℕ) → admission kind (length file) (length name) ≡ admitted.Digits n → (w : Told) → askOf paper n file name ≡ w → askNumber (answer.Done w) ≡ 0
+        → askFault (answer.Done w) ≡ checkNumber (checkAnswer kind file)
+    by-told n e (told.Charted place r v) a zero = let (h, inner, opens, here, x, checked) = trusted n file name .charted place r v a in rw (same-digits n e) (ap verdictNumber (sym checked))
+    by-told n e told.Absent a zero = absurd (omega arith)
+    by-told n e told.BadName a zero = absurd (omega arith)
+    by-told n e (told.Refused why) a zero = absurd (some-refusal why zero)
+
+    by-kind : (a : Admission) → admission kind (length file) (length name) ≡ a → askNumber (askAnswer kind file name) ≡ 0
+        → askFault (askAnswer kind file name) ≡ checkNumber (checkAnswer kind file)
+    by-kind (admitted.Digits n) e zero = rw e (by-told n e (askOf paper n file name) refl (rw e at zero))
+    by-kind admitted.UnknownKind e zero = absurd (let z = rw e at zero in omega arith)
+    by-kind admitted.TooLarge e zero = absurd (let z = rw e at zero in omega arith)

@@ -33,7 +33,7 @@ firstNamed n name place (i ∷ l) =
 unfoldable pub soughtFrom : Classes → ℕ → List ℕ → ℕ → List ℕ → Sought
 soughtFrom byte n file place name = firstNamed n name place (items byte n (drop place file))
 
--- ---- behind a header that can be read: charted if a record has the name, and "beside 0 it tells what the check gives of the whole file"; else
+-- ---- behind a header that can be read: charted if a record has the name, and "beside 0 it now tells what the check gives of the whole file"; else
 -- absent if the file passes the check; else what the check gives
 
 abbrev pub toldOf : Sought → Verdict → Told
@@ -63,7 +63,7 @@ askNumber (Done (Refused why)) = refusalNumber why
 askNumber UnknownKind = 1
 askNumber TooLarge = 17
 
--- the number that the check gives of the whole file: "`fault`, 0 where it passes". It stands beside 0 alone
+-- what the check gives of the whole file ("`fault`, 0 where it passes"), beside 0 alone
 abbrev pub askFault : AskAnswer → ℕ
 askFault (Done (Charted place r v)) = verdictNumber v
 askFault (Done Absent) = 0
@@ -71,10 +71,3 @@ askFault (Done BadName) = 0
 askFault (Done (Refused why)) = 0
 askFault UnknownKind = 0
 askFault TooLarge = 0
-
--- ---- what functions promise each other
-
--- what was found before, or else what comes later
-abbrev pub orElse : Sought → Sought → Sought
-orElse (At place r) later = At place r
-orElse Nowhere later = later

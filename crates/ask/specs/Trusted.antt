@@ -12,11 +12,11 @@ use Rattle.decode.specs.declared.reference.Record.{Record}
 use Rattle.iter.specs.Stands.{Named}
 use Rattle.checks.specs.declared.Verdict.{Verdict}
 use Rattle.checks.specs.declared.Verdict.the-variants as verdict
-use Rattle.checks.specs.Check.{checkOf, verdictNumber}
+use Rattle.checks.specs.Check.{checkOf, checkAnswer, verdictNumber, checkNumber}
 use Rattle.ask.specs.declared.Sought.the-variants.{Nowhere}
 use Rattle.ask.specs.declared.Told.the-variants as told
 use Rattle.name.specs.Name.{validName}
-use Rattle.ask.specs.Ask.{toldOf, askOf}
+use Rattle.ask.specs.Ask.{toldOf, askOf, askAnswer, askNumber, askFault}
 
 pub record Trusted (n : ℕ) (file name : List ℕ) : Type 0 where
   -- absent: the file passes the check, and no record of it has the name
@@ -43,3 +43,7 @@ pub record Trusted (n : ℕ) (file name : List ℕ) : Type 0 where
 -- any bytes, any name
 abbrev pub AskIsTrusted : Type 0
 AskIsTrusted = (n : ℕ) (file name : List ℕ) → Trusted n file name
+
+-- the same of what callers lend and get: "beside 0 it now tells what the check gives of the whole file"
+abbrev pub FaultIsTheChecks : Type 0
+FaultIsTheChecks = (kind : ℕ) (file name : List ℕ) → askNumber (askAnswer kind file name) ≡ 0 → askFault (askAnswer kind file name) ≡ checkNumber (checkAnswer kind file)

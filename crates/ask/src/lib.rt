@@ -1,11 +1,7 @@
 // The lookup that can be trusted on any bytes: absent is said only of a file that passes the check.
 ghost use mathlib.Core.Path.{_≡_};
 ghost use Rattle.class.specs.Class.{classesOf};
-ghost use Rattle.parse.specs.Choice.{if};
-ghost use Rattle.compare.specs.Prefix.{same};
-ghost use Rattle.checks.specs.declared.Verdict.the-variants.{Refused};
-ghost use Rattle.ask.specs.declared.Sought.the-variants.{At, Nowhere};
-ghost use Rattle.ask.specs.Ask.{askOf, askAnswer, askBody, soughtFrom, toldOf, orElse};
+ghost use Rattle.ask.specs.Ask.{askOf, askAnswer, askBody, soughtFrom, toldOf};
 use checks::Refusal;
 use checks::Turn;
 use checks::Verdict;
@@ -76,36 +72,29 @@ pub(crate) fn ask_body(t: &[u8; 256], n: usize, file: &[u8], body: usize, name: 
     let mut place = body;
     let mut count = 0;
     let mut last = &file[0..0];
-    let mut sought = Sought::Nowhere;
     loop {
         match checks::take_turn(t, n, file, place, last) {
             Turn::End => {
-                return tell(sought, Verdict::Clean(count));
+                return Told::Absent;
             }
             Turn::Refused(why) => {
-                return tell_at_fault(sought, t, n, file, place, name, why);
+                let sought = first_named(t, n, file, place, name);
+                return tell(sought, Verdict::Refused(why));
             }
             Turn::On(found) => {
                 last = decode::reference::name_of(&file[place..], n, found);
-                sought = or_this(sought, name, last, place, found);
                 count += 1;
-                place += found.size;
+                let next = place + found.size;
+                if compare::prefix::is_same(last, name) {
+                    let verdict = checks::check_from(t, n, file, next, count, last);
+                    return Told::Charted {
+                        place,
+                        found,
+                        verdict,
+                    };
+                }
+                place = next;
             }
-        }
-    }
-}
-
-// What was found before, or else the record at a place, if its name is the wanted one.
-fn or_this(sought: Sought, name: &[u8], its: &[u8], place: usize, found: Record) -> Sought
-    ensures { λ r. ⌜ r ≡ orElse sought (if (same (now (name .entry)) (now (its .entry))) (At place found) Nowhere) ⌝ }
-{
-    match sought {
-        Sought::At { place: _, found: _ } => sought,
-        Sought::Nowhere => {
-            if compare::prefix::is_same(its, name) {
-                return Sought::At { place, found };
-            }
-            Sought::Nowhere
         }
     }
 }
@@ -146,26 +135,5 @@ fn tell(sought: Sought, verdict: Verdict) -> Told
             Verdict::Clean(_) => Told::Absent,
             Verdict::Refused(why) => Told::Refused(why),
         },
-    }
-}
-
-// At the first fault, which stands at a place: a record that was found before it is told with it, and so is the first one from there on.
-fn tell_at_fault(
-    sought: Sought,
-    t: &[u8; 256],
-    n: usize,
-    file: &[u8],
-    from: usize,
-    name: &[u8],
-    why: Refusal,
-) -> Told
-    ensures { λ r. ⌜ r ≡ toldOf (orElse sought (soughtFrom (classesOf (now (t .entry))) n (now (file .entry)) from (now (name .entry)))) (Refused why) ⌝ }
-{
-    match sought {
-        Sought::At { place: _, found: _ } => tell(sought, Verdict::Refused(why)),
-        Sought::Nowhere => {
-            let later = first_named(t, n, file, from, name);
-            tell(later, Verdict::Refused(why))
-        }
     }
 }

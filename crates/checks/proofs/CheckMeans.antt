@@ -61,7 +61,7 @@ some-fault LineEnd e = omega arith
 some-fault Name e = omega arith
 some-fault Peeled e = omega arith
 
-some-refusal : (why : Refusal) → refusalNumber why ≡ 0 → ⊥
+pub some-refusal : (why : Refusal) → refusalNumber why ≡ 0 → ⊥
 some-refusal (BadHeader text) e = omega arith
 some-refusal (BadRecord place f) e = some-fault f e
 some-refusal (Unsorted place) e = omega arith

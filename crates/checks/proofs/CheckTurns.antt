@@ -3,6 +3,7 @@ use mathlib.Core.Path.{_≡_, refl, sym, _∙_, subst}
 use mathlib.Core.Bool.{Bool, true, false}
 use mathlib.Core.List.{List}
 use Prim.Native.Nat.{ℕ, suc, _+_, _≤_}
+use native.Mathlib.Omega.{arith}
 use lib.Dec.{ltb}
 use borrow.Author.Tests.{lt-ltb, le-ltb, ltb-true, ltb-false}
 use Rattle.parse.specs.Choice.{if}
@@ -20,7 +21,7 @@ use Rattle.checks.specs.declared.Refusal.the-variants.{BadHeader, BadRec
 use Rattle.checks.specs.declared.Verdict.{Verdict}
 use Rattle.checks.specs.declared.Verdict.the-variants as verdict
 use Rattle.iter.specs.Items.{items}
-use Rattle.checks.specs.Check.{judge, turnBy, turnOf}
+use Rattle.checks.specs.Check.{judge, countBefore, turnBy, turnOf}
 use Rattle.iter.proofs.ItemRead.{Reads}
 use Rattle.iter.proofs.Items.{items-nil}
 use Rattle.iter.proofs.Turns.{HeadItem, head-bad, head-good}
@@ -105,3 +106,23 @@ module _ (s : Spot) where
   judged count (Refused (BadRecord place f)) (here, k) =
       let h = head-bad (s .byte) (s .n) (s .file) (s .place) (k .inside) f (k .is) in rw (here, h .all, h .is)
   judged count (Refused (Unsorted place)) (here, r, k, e) = let h = head r k in rw (here, h .all, h .is, h .name, h .long, e)
+
+-- ---- how many records stood before a place
+
+module _ (count place : ℕ) where
+  pub before-le : countBefore count place ≤ place
+  unfolding countBefore
+  before-le = go (ltb count place) refl
+    where
+      go : (b : Bool) → ltb count place ≡ b → if b count place ≤ place
+      go true e = omega (arith, ltb-true count place e)
+      go false e = omega arith
+
+  -- a count that is not greater is kept
+  pub before-is : count ≤ place → countBefore count place ≡ count
+  unfolding countBefore
+  before-is h = go (ltb count place) refl
+    where
+      go : (b : Bool) → ltb count place ≡ b → if b count place ≡ count
+      go true e = refl
+      go false e = omega (arith, ltb-false count place e)

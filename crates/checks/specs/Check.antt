@@ -21,8 +21,8 @@ use Rattle.checks.specs.declared.Turn.{Turn}
 use Rattle.checks.specs.declared.Turn.the-variants as turn
 use Rattle.iter.specs.Items.{Item, items, nameIn, nameOf}
 
--- "iterate; the first item that is an error (41 to 45 by its part) or whose name isn't greater, byte by byte, than the one before (6) is answered
--- with its place; else 0 and the record count". The items begin at a place. So many records (count) stood
+-- "iterate; the first item that is an error (4) or whose name isn't greater, byte by byte, than the one before (6) is answered
+-- with its place; else 0 and the record count", where document 02 has 41 to 45 for 4, by the item's part. The items begin at a place. So many records (count) stood
 -- before them, and the last of those has the name last. Before the first record last is empty: every name is greater than that
 abbrev pub judge : ℕ → ℕ → ℕ → List ℕ → List Item → Verdict
 judge n place count last [] = Clean count
@@ -31,9 +31,13 @@ judge n place count last (i ∷ l) =
     (λ r. if (smaller last (nameOf n i)) (judge n (place + length (i .bytes)) (suc count) (nameOf n i) l) (Refused (Unsorted place)))
     (λ f. Refused (BadRecord place f))
 
+-- the items of a file from a place on
+abbrev pub judgeFrom : Classes → ℕ → List ℕ → ℕ → ℕ → List ℕ → Verdict
+judgeFrom byte n file place count last = judge n place count last (items byte n (drop place file))
+
 -- the body of a file, which begins at a place
 unfoldable pub judgeBody : Classes → ℕ → List ℕ → ℕ → Verdict
-judgeBody byte n file body = judge n body 0 [] (items byte n (drop body file))
+judgeBody byte n file body = judgeFrom byte n file body 0 []
 
 unfoldable pub checkOf : Classes → ℕ → List ℕ → Verdict
 checkOf byte n file = headed (headerOf byte file) (λ h. judgeBody byte n file (h .body)) (λ text. Refused (BadHeader text))
@@ -59,7 +63,12 @@ checkNumber (Done v) = verdictNumber v
 checkNumber UnknownKind = 1
 checkNumber TooLarge = 17
 
--- ---- what functions promise each other, one turn of a pass that checks: what stands at a place, where last is the name of the record before it
+-- ---- what functions promise each other: a pass that goes on from a place. No more records than bytes stand before it, so a greater count is cut to that
+
+unfoldable pub countBefore : ℕ → ℕ → ℕ
+countBefore count place = if (ltb count place) count place
+
+-- ---- one turn of a pass that checks: what stands at a place, where last is the name of the record before it
 
 abbrev pub turnBy : ℕ → List ℕ → List ℕ → ℕ → Reading → Turn
 turnBy n last rest place (Good r) = if (smaller last (nameIn n (Good r) rest)) (turn.On r) (turn.Refused (Unsorted place))

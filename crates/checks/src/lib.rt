@@ -1,7 +1,7 @@
 // The check of a whole file: every item a record, every name greater than the one before.
 ghost use mathlib.Core.Path.{_≡_};
 ghost use Rattle.class.specs.Class.{classesOf};
-ghost use Rattle.checks.specs.Check.{checkOf, checkAnswer, judgeBody, turnOf};
+ghost use Rattle.checks.specs.Check.{checkOf, checkAnswer, judgeFrom, countBefore, turnOf};
 use decode::reference::Fault;
 use decode::reference::Reading;
 use decode::reference::Record;
@@ -49,17 +49,25 @@ pub fn check_using(t: &[u8; 256], n: usize, file: &[u8]) -> Verdict
 {
     match header::open(t, file) {
         Opened::Unreadable(text) => Verdict::Refused(Refusal::BadHeader(text)),
-        Opened::Header(h) => check_body(t, n, file, h.body),
+        Opened::Header(h) => check_from(t, n, file, h.body, 0, &file[0..0]),
     }
 }
 
-// The check from a place on, in one pass: only the name before is looked at again.
-pub(crate) fn check_body(t: &[u8; 256], n: usize, file: &[u8], body: usize) -> Verdict
-    ensures { λ r. ⌜ r ≡ judgeBody (classesOf (now (t .entry))) n (now (file .entry)) body ⌝ }
+// The check from a place on, in one pass: only the name before is looked at again. So many records stood before the place, and the last of them has the
+// name last, which is empty before the first.
+pub fn check_from<'t, 'a>(
+    t: &'t [u8; 256],
+    n: usize,
+    file: &'a [u8],
+    from: usize,
+    passed: usize,
+    name: &'a [u8],
+) -> Verdict
+    ensures { λ r. ⌜ r ≡ judgeFrom (classesOf (now (t .entry))) n (now (file .entry)) from (countBefore passed from) (now (name .entry)) ⌝ }
 {
-    let mut place = body;
-    let mut count = 0;
-    let mut last = &file[0..0];
+    let mut place = from;
+    let mut count = count_before(passed, from);
+    let mut last = name;
     loop {
         match take_turn(t, n, file, place, last) {
             Turn::End => {
@@ -75,6 +83,16 @@ pub(crate) fn check_body(t: &[u8; 256], n: usize, file: &[u8], body: usize) -> V
             }
         }
     }
+}
+
+// No more records than bytes stand before a place, so that the count never overflows.
+fn count_before(count: usize, place: usize) -> usize
+    ensures { λ r. ⌜ r ≡ countBefore count place ⌝ }
+{
+    if count < place {
+        return count;
+    }
+    place
 }
 
 // What a pass that checks meets at a place.

@@ -2,26 +2,25 @@
 use mathlib.Core.Path.{_≡_, refl, ap, _∙_, subst}
 use mathlib.Core.Bool.{Bool, true, false}
 use mathlib.Core.List.{List}
-use Prim.Native.Nat.{ℕ, _+_, _-_, _≤_, _<_}
+use Prim.Native.Nat.{ℕ, _+_, _-_, _<_}
 use native.Mathlib.Nat.{zero-add}
 use native.Mathlib.Omega.{arith}
 use lib.ListN.{getD, take, drop}
 use Rattle.class.specs.Class.{Classes}
 use Rattle.parse.specs.declared.part.Past.the-variants.{At, Unread}
 use Rattle.parse.specs.declared.line.Text.the-variants.{Ended, Unended}
-use Rattle.parse.specs.Run.{span}
 use Rattle.parse.specs.Part.{byteAt}
-use Rattle.parse.specs.Line.{eol, newlineAt, textAt}
-use Rattle.parse.proofs.Views.{ByteView, there, not-there, byte-view, NewlineView, newline, no-newline, newline-view, textEnd, TextView, text, no-text, text-view}
+use Rattle.parse.specs.Line.{textAt}
+use Rattle.parse.proofs.Views.{ByteView, there, not-there, byte-view, NewlineView, newline, no-newline, newline-view, TextView, text, no-text, text-view}
 use Rattle.id.specs.Id.{idAt}
 use Rattle.id.proofs.Ids.{IdView, no-id, id-view}
 use Rattle.id.proofs.Ids as ids
 use Rattle.name.specs.Name.{validName}
 use Rattle.decode.specs.declared.reference.Fault.{Fault}
 use Rattle.decode.specs.declared.reference.Fault.the-variants.{Peeled}
-use Rattle.decode.specs.declared.reference.Reading.the-variants.{Good, Bad}
+use Rattle.decode.specs.declared.reference.Reading.the-variants.{Bad}
 use Rattle.decode.specs.Record.{recordOf}
-use Rattle.decode.specs.Why.{HasId, HasSpace, HasLineEnd, HasName, HasCaret, HasPeeled, nameLen, nameEnd, second, Why, id, space, line-end, name, peeled, EachHasItsReason}
+use Rattle.decode.specs.Why.{HasId, HasSpace, HasLineEnd, HasName, nameLen, nameEnd, second, Why, id, space, line-end, name, peeled, EachHasItsReason}
 use Rattle.decode.proofs.Parts as parts
 
 module _ (byte : Classes) (n : ℕ) (s : List ℕ) where

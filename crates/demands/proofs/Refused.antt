@@ -1,4 +1,4 @@
--- Demand 1: every call is answered or refused with one of document 01's numbers, and what a refused merge leaves of the lent memory.
+-- Demand 1: every call is answered or refused with a number, and what a refused merge leaves of the lent memory.
 use mathlib.Core.Path.{_≡_, refl, sym, _∙_, subst}
 use mathlib.Core.Bool.{Bool, true, false}
 use mathlib.Core.List.{List, [], _∷_, _++_}
@@ -51,9 +51,6 @@ use Rattle.ask.specs.declared.AskAnswer.{AskAnswer}
 use Rattle.ask.specs.declared.AskAnswer.the-variants as asked
 use Rattle.ask.specs.Ask.{askOf, askAnswer, askNumber, askFault}
 use Rattle.ask.proofs.Trusted.{trusted}
-use Rattle.find.specs.declared.lookup.Lookup.the-variants as lookup
-use Rattle.find.specs.declared.lookup.LookupAnswer.{LookupAnswer}
-use Rattle.find.specs.declared.lookup.LookupAnswer.the-variants as looked
 use Rattle.find.specs.declared.prefix_start.PrefixStart.the-variants as prefixed
 use Rattle.find.specs.declared.prefix_start.PrefixStartAnswer.{PrefixStartAnswer}
 use Rattle.find.specs.declared.prefix_start.PrefixStartAnswer.the-variants as listed

@@ -52,7 +52,7 @@ pub record AllNumbered : Type 0 where
 
 -- ---- what a merge leaves of the memory that it is lent
 
--- the refusals that stand before 11 in "Order: 1, 17, 7/8/9 by place, 10, 11, 2, 4/6 by place, 13, 14, 12.", where 4 is 41 to 45 now
+-- the refusals that stand before 11 in "Order: 1, 17, 7/8/9 by place, 10, 11, 2, 4/6 by place, 13, 14, 12.", where document 02 has 41 to 45 for 4
 abbrev pub beforeEleven : ℕ → Bool
 beforeEleven number = among number (1 ∷ 17 ∷ 7 ∷ 8 ∷ 9 ∷ 10 ∷ [])
 

@@ -19,6 +19,7 @@ files = record {
   iterator-first = λ m k o o′. by-answer k o o′ refl;
   checks-check = λ m k o o′. by-answer k o o′ refl;
   checks-check-using = λ m k o o′. by-answer k o o′ refl;
+  checks-check-from = λ m k o o′. by-answer k o o′ refl;
   checks-take-turn = λ m k o o′. by-answer k o o′ refl;
   loose-read = λ m k o o′. by-answer k o o′ refl;
   loose-read-using = λ m k o o′. by-answer k o o′ refl;

@@ -16,6 +16,7 @@ use Rattle.find.specs.declared.lookup.LookupAnswer.the-variants.{Done, U
 use Rattle.search.specs.Search.{searchOf}
 
 -- "On a hit the record is read in full: 0, or 4 if bad; earlier failed probes then don't count. On a miss: 4 if a probe failed, else 5."
+-- Document 02 has the number of the bad part for the hit's 4, which is 41 or 45 (Hits.antt)
 abbrev pub lookupBy : Classes → ℕ → List ℕ → Halved → Lookup
 lookupBy byte n s (Hit place) = decoded (recordOf byte n (drop place s)) (λ r. Charted place r) (λ f. BadRecord place f)
 lookupBy byte n s (Miss place failed) = if failed Unsure Absent

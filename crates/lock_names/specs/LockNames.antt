@@ -1,6 +1,6 @@
 -- A name that has a component ending in `.lock`, in each place where a name can stand. Document 02, Four: "Git's page forbids any component
--- ending in `.lock`". "Records, looked-up names, edits and symbolic targets that have such a component now give 4, 3, 8 and 16", the record's 4 being 44 since
--- Six.
+-- ending in `.lock`". "Records, looked-up names, edits and symbolic targets that have such a component now give 4, 3, 8 and 16", where
+-- Six has 44 for the record's 4.
 use mathlib.Core.Path.{_≡_}
 use mathlib.Core.Bool.{true, false}
 use mathlib.Core.List.{List}

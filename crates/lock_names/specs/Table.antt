@@ -35,7 +35,7 @@ computed name =
 abbrev pub taken : List ℕ → Row
 taken name = record { name = name; check = 0; lookup = 0; ask = 0; merge = 0; loose = 0 }
 
--- "Records, looked-up names, edits and symbolic targets that have such a component now give 4, 3, 8 and 16", the record's 4 being 44 since Six
+-- "Records, looked-up names, edits and symbolic targets that have such a component now give 4, 3, 8 and 16", where Six has 44 for the record's 4
 abbrev pub refused : List ℕ → Row
 refused name = record { name = name; check = 44; lookup = 3; ask = 3; merge = 8; loose = 16 }
 

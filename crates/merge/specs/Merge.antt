@@ -78,7 +78,7 @@ outputBy new out answer = if (eqb (mergeNumber answer) 0) (new ++ drop (length n
 
 -- ---- the answer
 
--- "2, 4/6 by place", where these are the old records
+-- "2, 4/6 by place", where document 02 has 41 to 45 for 4; these are the old records
 abbrev pub judgedBy : List Entry → List Override → ℕ → Verdict → Merged
 judgedBy olds edits room (verdict.Clean count) = finished olds edits room
 judgedBy olds edits room (verdict.Refused why) = Refused why
@@ -110,7 +110,7 @@ module _ (byte : Classes) (n : ℕ) (file : List ℕ) where
     unfoldable pub outputOf : ℕ → List ℕ → List ℕ
     outputOf indexRoom out = outputBy (newFile oldEntries editsInOrder) out (mergeOf indexRoom (length out))
 
--- "Order: 1, 17, 7/8/9 by place, 10, 11, 2, 4/6 by place, 13, 14, 12."
+-- "Order: 1, 17, 7/8/9 by place, 10, 11, 2, 4/6 by place, 13, 14, 12.", where document 02 has 41 to 45 for 4
 unfoldable pub mergeAnswer : ℕ → List ℕ → List ℕ → ℕ → ℕ → Merged
 mergeAnswer kind file list indexRoom room =
     admit (admission kind (length file) (length list)) (λ n. mergeOf paper n file list indexRoom room) UnknownKind TooLarge

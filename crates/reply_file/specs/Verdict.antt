@@ -11,7 +11,7 @@ abbrev pub checkGives : ℕ → ℕ → ℕ → ℕ → CheckReply
 checkGives number place count textLen = record { number = number; place = place; count = count; «text_len» = textLen }
 
 -- what stands beside a number: "check and merge give the item's place in the lent file for 4 and 6, .. and 2 its text; nothing else is given
--- with a refusal"
+-- with a refusal", where document 02 has 41 to 45 for 4
 abbrev pub checkBeside : ℕ → CheckAnswer → CheckReply
 checkBeside number (Done (Clean count)) = checkGives number 0 count 0
 checkBeside number (Done (Refused why)) = checkGives number (refusalPlace why) 0 (refusalText why)

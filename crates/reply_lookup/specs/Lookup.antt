@@ -14,7 +14,7 @@ abbrev pub lookupGives : ℕ → ℕ → Parts → LookupReply
 lookupGives number place parts =
     record { number = number; place = place; «name_at» = parts .«name_at»; «name_len» = parts .«name_len»; «peeled_at» = parts .«peeled_at» }
 
--- what stands beside a number: "lookup on a hit the record's start for 4", which is 41 or 45 now; a miss keeps 4, and has no place
+-- what stands beside a number: "lookup on a hit the record's start for 4", which document 02 makes 41 or 45; a miss keeps 4, and has no place
 abbrev pub lookupBeside : ℕ → ℕ → LookupAnswer → LookupReply
 lookupBeside number kind (Done (Charted place r)) = lookupGives number place (partsOf kind place r)
 lookupBeside number kind (Done (BadRecord place f)) = lookupGives number place noParts

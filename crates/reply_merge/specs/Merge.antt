@@ -11,7 +11,7 @@ abbrev pub mergeGives : ℕ → ℕ → ℕ → ℕ → MergeReply
 mergeGives number place len textLen = record { number = number; place = place; length = len; «text_len» = textLen }
 
 -- what stands beside a number: "check and merge give the item's place in the lent file for 4 and 6, merge the edit's start for 7, 8, 9 and 11,
--- .. and 2 its text; nothing else is given with a refusal"; "The answer gives the length"
+-- .. and 2 its text; nothing else is given with a refusal", where document 02 has 41 to 45 for 4; "The answer gives the length"
 abbrev pub mergeBeside : ℕ → Merged → MergeReply
 mergeBeside number (Done len) = mergeGives number 0 len 0
 mergeBeside number UnknownKind = mergeGives number 0 0 0

@@ -11,7 +11,7 @@ use merge::Merged;
 #[repr(C)]
 pub struct MergeReply {
     pub number: u32,
-    // Where the item of number 4 or 6 starts in the old file, or the edit of number 7, 8, 9 or 11 in the list.
+    // Where the item of numbers 41 to 45 and 6 starts in the old file, or the edit of number 7, 8, 9 or 11 in the list.
     pub place: usize,
     // The new file's length.
     pub length: usize,

@@ -47,7 +47,7 @@ Near place r = (place ≤ 1073741824) × (r .peeled ≤ 1073741824)
 
 -- ---- a refusal
 
--- "Beside the number, check and merge give the item's place in the lent file for 4 and 6, ..", 4 being 41 to 45 now
+-- "Beside the number, check and merge give the item's place in the lent file for 4 and 6, ..", where document 02 has 41 to 45 for 4
 abbrev pub refusalPlace : Refusal → ℕ
 refusalPlace (BadHeader text) = 0
 refusalPlace (BadRecord place f) = place

@@ -1,31 +1,33 @@
--- `ask::ask_body` meets its contract: what was found, and what the items from the place reached on come to, decide the whole.
+-- `ask::ask_body` meets its contract: what the items from the place reached on come to decides the whole.
 use mathlib.Core.Path.{_≡_, refl, sym, ap, _∙_}
 use mathlib.Core.List.{List}
-use Prim.Native.Nat.{ℕ, _-_, _≤_}
+use Prim.Native.Nat.{ℕ, _+_, _-_, _≤_}
 use native.Mathlib.Numerals.{add-one}
 use native.Mathlib.Omega.{arith}
 use lib.ListN.{length}
 use Rattle.class.specs.Class.{classesOf}
+use Rattle.compare.specs.Prefix.{same}
 use Rattle.decode.specs.declared.reference.Record.{Record}
 use Rattle.checks.specs.declared.Turn.{Turn}
 use Rattle.checks.specs.declared.Turn.the-variants.{On}
-use Rattle.checks.specs.Check.{judgeBody}
+use Rattle.checks.specs.Check.{judgeFrom, judgeBody}
 use Rattle.ask.specs.declared.Sought.{Sought}
 use Rattle.ask.specs.declared.Told.{Told}
-use Rattle.ask.specs.Ask.{soughtFrom, toldOf, orElse, askBody}
+use Rattle.ask.specs.declared.Told.the-variants.{Charted}
+use Rattle.ask.specs.Ask.{soughtFrom, toldOf, askBody}
 use Rattle.iter.proofs.ItemRead.{goes-on, named, named-is}
-use Rattle.checks.proofs.CheckTurns.{Spot, Turned, turned, judgedAfter}
-use Rattle.ask.proofs.Seeking.{askFrom, ask-turn, ask-end, ask-on}
+use Rattle.checks.proofs.CheckTurns.{Spot, Turned, turned, judgedAfter, before-is}
+use Rattle.ask.proofs.Seeking.{askFrom, ask-turn, ask-end, ask-found, ask-on}
 use borrow.Author.Needs.{needs}
 use Rattle.ask.proofs.ask_body.Statement.{statement}
 use Rattle.ask.proofs.ask_body.Tie as tie
 
 abbrev Inv-loop : tie.InvT-loop
-Inv-loop t n file body name place₀ count₀ last₀ sought₀ place count last sought =
-    (count ≤ place) × (askFrom (classesOf t) n file name sought place count last ≡ askBody (classesOf t) n file body name)
+Inv-loop t n file body name place₀ count₀ last₀ place count last =
+    (count ≤ place) × (askFrom (classesOf t) n file name place count last ≡ askBody (classesOf t) n file body name)
 
 abbrev μ-loop : tie.MeasureT-loop
-μ-loop t n file body name place₀ count₀ last₀ sought₀ place count last sought = length file - place
+μ-loop t n file body name place₀ count₀ last₀ place count last = length file - place
 
 -- ---- what a turn tells, and what the whole then comes to
 
@@ -45,22 +47,17 @@ module _ (k : tie.After-take-turn Inv-loop μ-loop) where
   abbrev count : ℕ
   count = k .before .loop .count
 
-  abbrev sought : Sought
-  sought = k .before .loop .sought
-
   tells : (w : Turn) → k .take-turn .result ≡ w → Turned here w
   tells w = turned here _ w (k .take-turn .ensures)
 
-  abbrev Whole : Told → Type 0
-  Whole told = told ≡ askBody (here .byte) (here .n) (here .file) (start .args .body) name
-
-  whole : {told : Told} → askFrom (here .byte) (here .n) (here .file) name sought (here .place) count (here .last) ≡ told → Whole told
+  whole : {told : Told} → askFrom (here .byte) (here .n) (here .file) name (here .place) count (here .last) ≡ told
+      → told ≡ askBody (here .byte) (here .n) (here .file) (start .args .body) name
   whole e = sym e ∙ k .before .loop .inv .1
 
-  -- where the check ends at a fault, what was found before or is found from there on decides
-  stopped : (w : Turn) → k .take-turn .result ≡ w
-      → Whole (toldOf (orElse sought (soughtFrom (here .byte) (here .n) (here .file) (here .place) name)) (judgedAfter here count w))
-  stopped w e = whole (ask-turn here name sought count w (tells w e))
+  -- where the check ends at a fault, what is sought from there on decides
+  stopped : (w : Turn) → k .take-turn .result ≡ w → (x : Sought) → x ≡ soughtFrom (here .byte) (here .n) (here .file) (here .place) name
+      → toldOf x (judgedAfter here count w) ≡ askBody (here .byte) (here .n) (here .file) (start .args .body) name
+  stopped w e x sought = ap (λ v. toldOf v (judgedAfter here count w)) sought ∙ whole (ask-turn here name count w (tells w e))
 
 -- a record: its turn, and its name as it is cut out
 module _ (f : tie.After-found Inv-loop μ-loop) where
@@ -79,6 +76,21 @@ module _ (m : tie.After-name-of Inv-loop μ-loop) where
 
   name-is : m .name-of .result .now ≡ named (on found .0)
   name-is = named-is (on found .0) (m .name-of .ensures)
+
+  abbrev k : tie.After-take-turn Inv-loop μ-loop
+  k = its found
+
+  -- no more records than bytes have passed
+  few : count k + 1 ≤ here k .place + it found .size
+  few = omega (arith, goes-on (on found .0), k .before .loop .inv .0)
+
+-- its name is held against the wanted one
+module _ (q : tie.After-is-same Inv-loop μ-loop) where
+  abbrev cut : tie.After-name-of Inv-loop μ-loop
+  cut = q .before .before
+
+  wanted-is : same (name (k cut)) (named (on (found cut) .0)) ≡ q .is-same .result
+  wanted-is = ap (same (name (k cut))) (sym (name-is cut)) ∙ sym (q .is-same .ensures)
 
 sub-last : tie.Need-sub-last Inv-loop μ-loop
 sub-last c = search needs
@@ -99,20 +111,22 @@ take-turn-requires c κs = search needs
 enum-told : tie.Need-enum-told Inv-loop μ-loop
 enum-told c = search needs
 
-tell-requires : tie.Need-tell-requires Inv-loop μ-loop
-tell-requires c κs = search needs
-
 returns : tie.Need-returns Inv-loop μ-loop
-returns c = let k = c .before .before .before in c .tell .ensures ∙ whole k (ask-end (here k) (name k) (sought k) (count k) (tells k _ (c .before .enum-told .given .1)))
+returns c = let k = c .before .before in whole k (ask-end (here k) (name k) (count k) (tells k _ (c .enum-told .given .1)))
 
 enum-known-why : tie.Need-enum-known-why Inv-loop μ-loop
 enum-known-why c = search needs
 
-tell-at-fault-requires : tie.Need-tell-at-fault-requires Inv-loop μ-loop
-tell-at-fault-requires c κs = search needs
+first-named-requires : tie.Need-first-named-requires Inv-loop μ-loop
+first-named-requires c κs = search needs
+
+tell-requires : tie.Need-tell-requires Inv-loop μ-loop
+tell-requires c κs = search needs
 
 returns-2 : tie.Need-returns-2 Inv-loop μ-loop
-returns-2 c = let w = c .before .before in c .tell-at-fault .ensures ∙ stopped (w .before .before) _ (w .why .given .1)
+returns-2 c =
+    let w = c .before .before .before in
+    c .tell .ensures ∙ stopped (w .before .before) _ (w .why .given .1) _ (c .before .first-named .ensures)
 
 enum-known-found : tie.Need-enum-known-found Inv-loop μ-loop
 enum-known-found c = search needs
@@ -129,30 +143,38 @@ part-name-of-end c = search needs
 name-of-requires : tie.Need-name-of-requires Inv-loop μ-loop
 name-of-requires c κs = search needs
 
-or-this-requires : tie.Need-or-this-requires Inv-loop μ-loop
-or-this-requires c κs = search needs
-
 add-count : tie.Need-add-count Inv-loop μ-loop
-add-count c =
-    let f = c .before .before .before .before in
-    omega (arith, goes-on (on f .0), its f .before .loop .inv .0, start (its f) .good)
+add-count c = omega (arith, few c, goes-on (on (found c) .0), start (k c) .good)
 
-add-place : tie.Need-add-place Inv-loop μ-loop
-add-place c =
-    let f = c .before .before .before .before .before in
-    omega (arith, goes-on (on f .0), start (its f) .good)
+add-next : tie.Need-add-next Inv-loop μ-loop
+add-next c = let m = c .before in omega (arith, goes-on (on (found m) .0), start (k m) .good)
+
+is-same-requires : tie.Need-is-same-requires Inv-loop μ-loop
+is-same-requires c κs = search needs
+
+check-from-requires : tie.Need-check-from-requires Inv-loop μ-loop
+check-from-requires c κs = search needs
+
+returns-3 : tie.Need-returns-3 Inv-loop μ-loop
+returns-3 c =
+    let q = c .before .before in
+    let m = cut q in
+    let t = k m in
+    let r = it (found m) in
+    let next = here t .place + r .size in
+    ap (Charted (here t .place) r)
+    (c .check-from .ensures
+    ∙ ap (λ (n : ℕ). judgeFrom (here t .byte) (here t .n) (here t .file) next n (m .name-of .result .now)) (before-is (count t + 1) next (few m) ∙ add-one (count t)))
+    ∙ whole t (ask-found (here t) (name t) (count t) r (on (found m)) _ (name-is m) (wanted-is q ∙ c .before .if1 .taken))
 
 loop-less : tie.Need-loop-less Inv-loop μ-loop
-loop-less c = omega (arith, goes-on (on (c .before .before .before .before .before) .0))
+loop-less c = omega (arith, goes-on (on (found (cut (c .before))) .0))
 
 loop-again : tie.Need-loop-again Inv-loop μ-loop
 loop-again c =
-    let m = c .before .before in
-    let f = found m in
-    let k = its f in (
-      omega (arith, goes-on (on f .0), k .before .loop .inv .0),
-      rw (add-one, c .before .or-this .ensures) (whole k (ask-on (here k) (name k) (sought k) (count k) (it f) (on f) _ (name-is m))),
-    )
+    let m = cut (c .before) in
+    let t = k m in
+    (few m, rw add-one (whole t (ask-on (here t) (name t) (count t) (it (found m)) (on (found m)) _ (name-is m) (wanted-is (c .before) ∙ c .if1 .left))))
 
 pub ask-body-spec : {M : Type 1} → statement M
 ask-body-spec =
@@ -166,18 +188,20 @@ ask-body-spec =
     loop-holds
     take-turn-requires
     enum-told
-    tell-requires
     returns
     enum-known-why
-    tell-at-fault-requires
+    first-named-requires
+    tell-requires
     returns-2
     enum-known-found
     sub-name-of
     part-name-of-start
     part-name-of-end
     name-of-requires
-    or-this-requires
     add-count
-    add-place
+    add-next
+    is-same-requires
+    check-from-requires
+    returns-3
     loop-less
     loop-again)

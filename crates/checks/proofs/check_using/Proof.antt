@@ -1,6 +1,8 @@
 -- `checks::check_using` meets its contract.
 use mathlib.Core.Path.{sym, _∙_}
-use Rattle.checks.specs.Check.{checkOf}
+use native.Mathlib.Omega.{arith}
+use Rattle.checks.specs.Check.{judgeBody, checkOf}
+use Rattle.checks.proofs.CheckTurns.{before-is}
 use borrow.Author.Needs.{needs}
 use Rattle.checks.proofs.check_using.Statement.{statement}
 use Rattle.checks.proofs.check_using.Tie as tie
@@ -14,20 +16,38 @@ enum-known-text c = search needs
 enum-known-h : tie.Need-enum-known-h
 enum-known-h c = search needs
 
-check-body-requires : tie.Need-check-body-requires
-check-body-requires c κs = search needs
+sub-check-from : tie.Need-sub-check-from
+sub-check-from c = search needs
+
+part-check-from-start : tie.Need-part-check-from-start
+part-check-from-start c = search needs
+
+part-check-from-end : tie.Need-part-check-from-end
+part-check-from-end c = search needs
+
+check-from-requires : tie.Need-check-from-requires
+check-from-requires c κs = search needs
 
 returns : tie.Need-returns
 unfolding checkOf
 returns c = rw (sym (c .before .before .before .open .ensures) ∙ c .before .text .given .1)
 
 returns-2 : tie.Need-returns-2
-unfolding checkOf
+unfolding checkOf judgeBody
 returns-2 c =
-    let o = c .before .before .before .before in
-    rw (sym (o .open .ensures) ∙ c .before .before .h .given .1) (c .check-body .ensures)
+    let h = c .before .before .before in
+    rw (sym (h .before .before .open .ensures) ∙ h .h .given .1) (rw (before-is 0 (h .h .given .0 .0 .body) (omega arith)) at (c .check-from .ensures))
 
 pub check-using-spec : {M : Type 1} → statement M
 check-using-spec =
     tie.close
-    (tie.spec open-requires enum-known-text enum-known-h check-body-requires returns returns-2)
+    (tie.spec
+    open-requires
+    enum-known-text
+    enum-known-h
+    sub-check-from
+    part-check-from-start
+    part-check-from-end
+    check-from-requires
+    returns
+    returns-2)

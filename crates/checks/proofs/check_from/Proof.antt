@@ -1,5 +1,5 @@
--- `checks::check_body` meets its contract: the items from the place reached on, judged after those before, decide the whole.
-use mathlib.Core.Path.{_≡_, refl, sym, _∙_}
+-- `checks::check_from` meets its contract: the items from the place reached on, judged after those before, decide the whole.
+use mathlib.Core.Path.{_≡_, sym, _∙_}
 use Prim.Native.Nat.{_-_, _≤_}
 use native.Mathlib.Numerals.{add-one}
 use native.Mathlib.Omega.{arith}
@@ -8,46 +8,46 @@ use Rattle.class.specs.Class.{classesOf}
 use Rattle.checks.specs.declared.Turn.{Turn}
 use Rattle.checks.specs.declared.Turn.the-variants.{On}
 use Rattle.iter.specs.Items.{items}
-use Rattle.checks.specs.Check.{judge, judgeBody}
+use Rattle.checks.specs.Check.{judge, judgeFrom, countBefore}
 use Rattle.iter.proofs.ItemRead.{goes-on, named-is}
-use Rattle.checks.proofs.CheckTurns.{Spot, Turned, turned, judgedAfter, judged}
+use Rattle.checks.proofs.CheckTurns.{Spot, Turned, turned, judgedAfter, judged, before-le}
 use borrow.Author.Needs.{needs}
-use Rattle.checks.proofs.check_body.Statement.{statement}
-use Rattle.checks.proofs.check_body.Tie as tie
+use Rattle.checks.proofs.check_from.Statement.{statement}
+use Rattle.checks.proofs.check_from.Tie as tie
 
 abbrev Inv-loop : tie.InvT-loop
-Inv-loop t n file body place₀ count₀ last₀ place count last = (count ≤ place) × (judge n place count last (items (classesOf t) n (drop place file)) ≡ judgeBody (classesOf t) n file body)
+Inv-loop t n file from passed name place₀ count₀ last₀ place count last =
+    (count ≤ place) × (judge n place count last (items (classesOf t) n (drop place file)) ≡ judgeFrom (classesOf t) n file from (countBefore passed from) name)
 
 abbrev μ-loop : tie.MeasureT-loop
-μ-loop t n file body place₀ count₀ last₀ place count last = length file - place
+μ-loop t n file from passed name place₀ count₀ last₀ place count last = length file - place
 
 -- what a turn tells, and what the whole then comes to
 module _ (k : tie.After-take-turn Inv-loop μ-loop) where
+  abbrev start : tie.Start Inv-loop μ-loop
+  start = k .before .before .before .before .before
+
   abbrev here : Spot
   here =
       let l = k .before in
-      let a = l .before .before .before .args in
+      let a = start .args in
       record { byte = classesOf (a .t .now); n = a .n; file = a .file .now; place = l .loop .place; last = l .loop .last .now }
 
   tells : (w : Turn) → k .take-turn .result ≡ w → Turned here w
   tells w = turned here _ w (k .take-turn .ensures)
 
   whole : (w : Turn) → k .take-turn .result ≡ w
-      → judgedAfter here (k .before .loop .count) w ≡ judgeBody (here .byte) (here .n) (here .file) (k .before .before .before .before .args .body)
+      → judgedAfter here (k .before .loop .count) w
+      ≡ judgeFrom (here .byte) (here .n) (here .file) (start .args .from) (countBefore (start .args .passed) (start .args .from)) (start .args .name .now)
   whole w e = sym (judged here (k .before .loop .count) w (tells w e)) ∙ k .before .loop .inv .1
 
-sub-last : tie.Need-sub-last Inv-loop μ-loop
-sub-last c = search needs
-
-part-last-start : tie.Need-part-last-start Inv-loop μ-loop
-part-last-start c = search needs
-
-part-last-end : tie.Need-part-last-end Inv-loop μ-loop
-part-last-end c = search needs
+count-before-requires : tie.Need-count-before-requires Inv-loop μ-loop
+count-before-requires c κs = search needs
 
 loop-holds : tie.Need-loop-holds Inv-loop μ-loop
-unfolding judgeBody
-loop-holds c = (search needs, refl)
+loop-holds c =
+    let a = c .before .before .before .args in
+    (omega (arith, c .count-before .ensures, before-le (a .passed) (a .from)), rw (c .count-before .ensures))
 
 take-turn-requires : tie.Need-take-turn-requires Inv-loop μ-loop
 take-turn-requires c κs = search needs
@@ -90,12 +90,12 @@ name-of-requires c κs = search needs
 add-count : tie.Need-add-count Inv-loop μ-loop
 add-count c =
     let f = c .before .before .before in
-    omega (arith, goes-on (on f .0), its f .before .loop .inv .0, its f .before .before .before .before .good)
+    omega (arith, goes-on (on f .0), its f .before .loop .inv .0, start (its f) .good)
 
 add-place : tie.Need-add-place Inv-loop μ-loop
 add-place c =
     let f = c .before .before .before .before in
-    omega (arith, goes-on (on f .0), its f .before .before .before .before .good)
+    omega (arith, goes-on (on f .0), start (its f) .good)
 
 loop-less : tie.Need-loop-less Inv-loop μ-loop
 loop-less c = omega (arith, goes-on (on (c .before .before .before .before) .0))
@@ -105,15 +105,13 @@ loop-again c =
     let f = c .before .before .before .before in
     (omega (arith, goes-on (on f .0), its f .before .loop .inv .0), rw (add-one, named-is (on f .0) (c .before .name-of .ensures)) (whole (its f) _ (f .found .given .1)))
 
-pub check-body-spec : {M : Type 1} → statement M
-check-body-spec =
+pub check-from-spec : {M : Type 1} → statement M
+check-from-spec =
     tie.close
     (tie.spec
     Inv-loop
     μ-loop
-    sub-last
-    part-last-start
-    part-last-end
+    count-before-requires
     loop-holds
     take-turn-requires
     enum-told
