@@ -120,8 +120,8 @@ struct packed_refs_prefix_reply packed_refs_prefix(
     uint32_t kind, const uint8_t *body, size_t body_len, const uint8_t *prefix, size_t prefix_len);
 
 /* A name in a whole file, whatever the file: 0 where a record has the name; else 5 only if the file passes the check; else what the check gives. Beside 0
- * stands whether the file passes. Where it does not, the name is charted and the record may itself be what the damage made: stop, and call someone. It is
- * one pass over the whole file in every case. */
+ * stands whether the file passes. Where it does not, the name is charted and the record may itself be what the damage made: stop, and call someone. It
+ * goes through the file at most once: to its end, unless it has met both the name and a fault before. Beside 1, 2, 3 and 17 there is no pass. */
 struct packed_refs_ask_reply {
     uint32_t number;    /* 0, 1, 2, 3, 5, 6, 17, 41 to 45 */
     size_t place;       /* beside 0: where the record starts, and its id; beside 41 to 45 and 6: where the first such item starts */

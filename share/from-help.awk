@@ -33,7 +33,7 @@ function parse(r,    words, n, k) {
     }
 }
 
-function roff(s) { gsub(/\\/, "\\e", s); gsub(/-/, "\\-", s); sub(/^[.']/, "\\\\\\&&", s); return s }
+function roff(s) { gsub(/\\/, "\\e", s); gsub(/-/, "\\-", s); gsub(/\^/, "\\(ha", s); sub(/^[.']/, "\\\\\\&&", s); return s }
 function quoted(s) { gsub(/'/, "'\\''", s); return s }
 function is_file(r) { return value[r] == "FILE" || value[r] == "NEW" }
 function command_of(r,    words) { split(left[r], words, " "); return words[1] }
@@ -80,12 +80,17 @@ function man(    k, line, cells) {
     gsub(/\n$/, "", behind_status)
     print roff(behind_status)
     print ".SH NUMBERS"
-    print "What each number means, what the sender does, and what a person does."
+    # an example is neither stretched nor hyphenated
+    print ".ad l"
+    print ".nh"
+    print "What each number means, what the sender does, and what a person does. In an example of a line " roff("\\n") " is its LF."
     while ((getline line < numbers) > 0) {
         if (line !~ /^\| [0-9]+ \|/) continue
         split(line, cells, / \| /)
         sub(/^\| /, "", cells[1])
+        gsub(/`/, "\"", cells[2])
         gsub(/`/, "", cells[4])
+        gsub(/`/, "", cells[5])
         print ".TP"
         print ".B " cells[1]
         print roff(cells[2] ". " cells[4] " " cells[5])

@@ -112,6 +112,12 @@ for number in 0 2 4 5 17 41 45; do
 done
 numbers=$prefix/share/doc/packed-refs/NUMBERS.md
 [ "$(grep -c '^| [0-9]' "$numbers")" -ge 23 ] && ! grep -q 'crates/' "$numbers" || fail "the page of numbers: $(cat "$numbers")"
+# the examples in the rows: whole, and without the page's backticks in the man page
+example='1111111111111111111111111111111111111111 refs/tags/night\n^2222\n'
+odd=$(awk -F ' [|] ' '/^[|] [0-9]/ && NF != 5' "$numbers")
+[ -z "$odd" ] && grep -qF "as in \`$example\` | " "$numbers" || fail "the rows of numbers: $odd"
+in_man=$(sed 's/\\/\\e/g; s/\^/\\(ha/g' <<<"$example")
+! grep -q '`' "$man" && grep -qF "as in \"$in_man\". Do not send. " "$man" || fail "the man page's examples: $(grep ', as in ' "$man")"
 if command -v groff >/dev/null; then
     said=$(groff -man -Tascii -ww "$man" 2>&1 >/dev/null)
     [ -z "$said" ] || fail "groff says of the man page: $said"

@@ -28,7 +28,7 @@ want 1 "5 absent $name/e4" lookup examples/night $name/e4
 want 2 '*number 3: *' lookup examples/night refs/sent//e4
 want 0 '0 passed: 28 records' check examples/night
 want 2 "*number 41: a record's id can't be read; *an id can't be guessed*" check examples/damaged
-want 0 "0 charted $name/e3 *charted, but in a file that does not pass the check: *, line 15: number 41: *" lookup examples/damaged $name/e3
+want 0 "0 charted $name/e3 *every name that is charted here stands in a file that does not pass the check: *, line 15: number 41: *" lookup examples/damaged $name/e3
 want 2 '*number 41: *' lookup examples/damaged $name/e2
 want 0 "$name/e1 *" list examples/night $name
 want 2 "41 damaged: item 15, byte 891, line 15, a record's id can't be read: *what to do about 41: *total: 27 records, 1 damaged, *" report examples/damaged

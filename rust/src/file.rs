@@ -140,7 +140,7 @@ impl<'p> Opener<'p> {
     }
 
     /// Whether a file that was written to just now is taken without a further look: for who asks only what is true of a part of a table, too, as that a
-    /// name is charted.
+    /// name is charted. [`ask`] may then call a table damaged that is only being written.
     pub fn may_be_young(self, may_be_young: bool) -> Opener<'p> {
         Opener { may_be_young, ..self }
     }
@@ -285,7 +285,7 @@ impl TableFile {
         ask(self.kind, &self.bytes, name)
     }
 
-    /// The same of many names, in one pass: [`ask_many`](crate::ask_many).
+    /// The same of many names at once: [`ask_many`](crate::ask_many).
     #[must_use]
     pub fn ask_many(&self, names: &[impl AsRef<[u8]>]) -> Vec<Result<Asked<'_>, Error>> {
         ask_many(self.kind, &self.bytes, names)

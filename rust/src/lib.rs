@@ -21,8 +21,8 @@
 //!
 //! | call | bytes | can say absent | cost |
 //! |---|---|---|---|
-//! | [`ask`] | any | yes, and it is worth the same on any bytes | one pass over the file |
-//! | [`ask_many`] | any | yes, as `ask` | one pass over the file for all names, two if it is damaged |
+//! | [`ask`] | any | yes, and it is worth the same on any bytes | at most one pass over the file |
+//! | [`ask_many`] | any | yes, as `ask` | one pass over the file for all names, at most two if it is damaged |
 //! | [`Checked::find`] | a file that passed [`Table::check`] | yes | a handful of probes |
 //! | [`Table::glance`] | any | **no**: [`Glance::NotFound`] is not worth *absent* | a handful of probes |
 //!

@@ -1,4 +1,4 @@
-//! Many names asked of one file in one pass.
+//! Many names asked of one file at once.
 use crate::{check_name, Asked, Error, IdKind, Reason, Record, Table};
 use std::collections::HashMap;
 

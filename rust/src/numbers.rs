@@ -132,8 +132,8 @@ numbers! {
     answers {
         0: "done: found, passed, read or merged",
             "A lookup's: stop, the name is charted. If `ask` gives a fault beside it, also call someone.",
-            "Nothing. Beside a fault of `ask`: the file does not pass the check, and the record may itself be what the damage made. Follow the row \
-             of the fault's number.";
+            "Beside a fault of `ask`: the file does not pass the check, and the record may itself be what the damage made. Follow the row of the \
+             fault's number. Else nothing.";
         5: "not found",
             "From `ask`, or from a lookup in a file that passed the check: absent, it may be sent. From a lookup in a file that nobody \
              checked: ask again with `ask`.",
@@ -198,7 +198,8 @@ numbers! {
             "Do not send.",
             concat!(
                 "Copy the file, then restore the whole line at that place, its id and its name, from the chart or from another copy of that very \
-                 line: an id can't be guessed. A line that begins with ^ belongs to the record above it; if that is missing, restore it too.",
+                 line: an id can't be guessed. A line that begins with ^ is the ^ line of the record above it, which may be bad or missing: restore that \
+                 too. If a name stands in it, it was a record: restore it as one.",
                 joined!(),
                 cut!(),
                 lost!()
@@ -207,7 +208,7 @@ numbers! {
             "Do not send.",
             concat!(
                 "Copy the file, then restore the line at that place, its id and its name, from last night's file if exactly one line there has that id \
-                 and what is left of the name, else from the chart or from another copy.",
+                 and what is left of the name, and that name stands nowhere else in this file, else from the chart or from another copy.",
                 joined!(),
                 cut!(),
                 lost!()
@@ -216,7 +217,8 @@ numbers! {
             "Do not send.",
             concat!(
                 "Copy the file, then restore the line at that place from last night's file if exactly one line there begins with what is left of it, \
-                 else from the chart or from another copy. Do not just add the line end: a name that was cut short is another name.",
+                 and that name stands nowhere else in this file, else from the chart or from another copy. Do not just add the line end: a name that \
+                 was cut short is another name.",
                 joined!(),
                 cut!(),
                 lost!()
@@ -234,8 +236,9 @@ numbers! {
             "Do not send.",
             concat!(
                 "Copy the file, then restore the ^ line below that record from another copy, or from the tag that the record's id names; the record's \
-                 own line can be read. If a name stands in the ^ line, a record became it or ran into it: restore that one as a line of its own. Do \
-                 not delete the ^ line: without it the name stays charted, but under fully-peeled the record says that its id is no tag.",
+                 own line can be read. If a name stands in the ^ line, a record became it or ran into it: restore that one as a line of its own. If \
+                 another copy has no ^ line there, or the record's id names no tag, a record stood there: restore that record. Do not delete the ^ \
+                 line: it may have been a record.",
                 cut!(),
                 lost!()
             );

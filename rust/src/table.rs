@@ -47,11 +47,11 @@ pub enum Found<'a> {
     Absent,
 }
 
-/// The answer of a lookup in a file that nobody checked before, and that was gone through as a whole: [`ask`].
+/// The answer of a lookup in a file that nobody checked before, and that was lent as a whole: [`ask`].
 ///
 /// There are three cases, and a `match` has to name each:
 ///
-/// ```compile_fail
+/// ```compile_fail,E0004
 /// # use packed_refs::{ask, Asked, IdKind};
 /// match ask(IdKind::Sha1, b"", b"refs/s/a").unwrap() {
 ///     Asked::Charted(_) => {}
@@ -166,7 +166,8 @@ pub fn check_name(name: impl AsRef<[u8]>) -> Result<(), Error> {
     }
 }
 
-/// The lookup that can be trusted on any bytes. It is lent the whole file and goes through it once, to its end in every case.
+/// The lookup that can be trusted on any bytes. It is lent the whole file and goes through it at most once: to its end, unless it has met both the name
+/// and a fault before. Beside 2, 3 and 17 there is no pass.
 ///
 /// *Charted* is said if a good record has the name, even if the file is damaged elsewhere; then that is said too. *Absent* is said only if the whole file
 /// passes the check. Everything else is an error: 2, 6 or 41 to 45 for what the check finds, 3 for the name, 17 for the size. Then do not send.
@@ -186,7 +187,7 @@ pub fn check_name(name: impl AsRef<[u8]>) -> Result<(), Error> {
 /// assert_eq!(ask(IdKind::Sha1, &file[..50], b"refs/s/b"), Ok(Asked::Absent));
 /// ```
 ///
-/// Of many names [`ask_many`](crate::ask_many) says the same in one pass.
+/// Of many names [`ask_many`](crate::ask_many) says the same for little more than one pass.
 pub fn ask<'a>(kind: IdKind, file: &'a (impl AsRef<[u8]> + ?Sized), name: impl AsRef<[u8]>) -> Result<Asked<'a>, Error> {
     let file = file.as_ref();
     let said = sys::ask(kind.number(), file, name.as_ref());

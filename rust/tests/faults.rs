@@ -220,6 +220,20 @@ fn a_lookup_tells_a_bad_hit_from_a_miss() {
     assert!(hits[0] > 5 && hits[1] > 5 && misses > 5, "{hits:?}, {misses}");
 }
 
+/// A call with the wrong id kind looks like damage, from the first record on.
+#[test]
+fn ids_of_the_other_length_are_told_as_damage() {
+    for (kind, other, number) in [(IdKind::Sha1, IdKind::Sha256, 42), (IdKind::Sha256, IdKind::Sha1, 41)] {
+        for head in ["", HEADER] {
+            let file = format!("{head}{}{}", record(other, "refs/s/a"), record(other, "refs/s/b"));
+            assert_eq!(Table::check(other, &file).map(|table| table.len()), Ok(2));
+            for error in [Table::check(kind, &file).map(|_| ()), ask(kind, &file, "refs/s/b").map(|_| ())].map(Result::unwrap_err) {
+                assert_eq!((error.number(), error.place()), (number, Some(head.len())));
+            }
+        }
+    }
+}
+
 #[test]
 fn the_five_reasons_are_bad_records_and_no_other_is() {
     for reason in packed_refs::numbers::REFUSALS {

@@ -1,7 +1,7 @@
 //! Habits that people have: options anywhere, help, names from a file, JSON, quiet; and messages that show what they speak of.
 mod common;
 
-use common::{id, record, shell, Dir, Ran, HEADER};
+use common::{id, record, shell, Dir, Ran, HEADER, IN_DAMAGED_FILE};
 
 const NIGHT: &str = concat!(env!("CARGO_MANIFEST_DIR"), "/../examples/night");
 const DAMAGED: &str = concat!(env!("CARGO_MANIFEST_DIR"), "/../examples/damaged");
@@ -235,7 +235,7 @@ fn quiet_says_it_by_the_status() {
     run(&["lookup", DAMAGED, E4, "-q"]).is(2, "", "number 41: ");
     run(&["check", DAMAGED, "-q"]).is(2, "", "number 41: ");
     // and what the status does not say
-    run(&["lookup", DAMAGED, E3, "-q"]).is(0, "", "charted, but in a file that does not pass the check: ");
+    run(&["lookup", DAMAGED, E3, "-q"]).is(0, "", IN_DAMAGED_FILE);
     let listed = run(&["list", NIGHT]);
     run(&["list", NIGHT, "-q"]).is(0, &listed.out, "");
     let merged = run(&["merge", NIGHT, EDITS]);
@@ -276,7 +276,7 @@ fn lines_of_json() {
     dir.file("lock", format!("{}{}", record('1', "refs/s/a"), record('2', "refs/s/b.lock")).as_bytes());
     let charted =
         format!("{{\"answer\":\"charted\",\"status\":0,\"number\":0,\"name\":\"refs/s/a\",\"id\":\"{one}\",\"byte\":0,\"fault\":44}}\n");
-    in_dir(&["lookup", "lock", "refs/s/a", "--json"]).is(0, &charted, "packed-refs: charted, but in a file that does not pass the check: ");
+    in_dir(&["lookup", "lock", "refs/s/a", "--json"]).is(0, &charted, IN_DAMAGED_FILE);
     let damaged = format!(
         "{{\"answer\":\"damaged\",\"number\":44,\"item\":2,\"line\":2,\"byte\":50,\"text\":\"{two} refs/s/b.lock\",\"length\":54,\
          \"rule\":\"a part of it ends with .lock\"}}\n\

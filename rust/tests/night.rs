@@ -1,7 +1,7 @@
 //! A night that goes wrong: no memory, signals, locks, other users, many names, the wrong kind of ids, names that Git can't keep.
 mod common;
 
-use common::{id, record, shell, Dir, Ran, HEADER};
+use common::{id, record, shell, Dir, Ran, HEADER, IN_DAMAGED_FILE};
 use std::io::Write;
 use std::os::unix::fs::{chown, MetadataExt, PermissionsExt};
 use std::process::{Command, Stdio};
@@ -230,9 +230,9 @@ fn a_merge_by_another_user() {
     assert_eq!(rights(&kept), (OWNER, GROUP, 0o2640));
 }
 
-/// Many names cost one pass over a damaged file, not one each: two thousand passes would take longer than the processor time that is left here.
+/// Many names cost little more than one in a damaged file: two thousand passes would take longer than the processor time that is left here.
 #[test]
-fn many_names_are_asked_of_a_damaged_file_in_one_pass() {
+fn many_names_are_asked_of_a_damaged_file_at_once() {
     let dir = Dir::new();
     let lines: String = (0..100_000).map(|i| record('1', &format!("refs/s/{i:07}"))).collect();
     let damaged = dir.file("damaged", format!("{lines}rubbish\n").as_bytes());
@@ -241,8 +241,20 @@ fn many_names_are_asked_of_a_damaged_file_in_one_pass() {
     // that what is charted stands in a damaged file is said once, and not for each name
     assert_eq!((ran.status, ran.out.lines().count(), ran.err.lines().count()), (2, 2_000, 2_001));
     assert!(ran.out.lines().all(|line| line.starts_with("0 charted ")));
-    assert!(ran.err.lines().next().unwrap().starts_with("packed-refs: charted, but in a file that does not pass the check: "));
+    assert!(ran.err.starts_with(IN_DAMAGED_FILE));
     assert!(ran.err.lines().skip(1).all(|line| line.contains(", line 100001: no answer for 'refs/s/")));
+}
+
+/// Of a bad line that is long it is found out once what is wrong, and not for each name.
+#[test]
+fn a_long_bad_line_is_looked_at_once() {
+    let dir = Dir::new();
+    let long = dir.file("long", record('1', &format!("refs/{}.lock", "s".repeat(4_000_000))).as_bytes());
+    let names = dir.file("names", (0..1_000).map(|i| format!("refs/s/{i:07}\n")).collect::<String>().as_bytes());
+    let ran = shell("ulimit -c 0 -t 6; exec \"$@\"", &["lookup", &long, "--names", &names]);
+    assert_eq!((ran.status, ran.out.as_str(), ran.err.lines().count()), (2, "", 1_000));
+    let is_told = |line: &str| line.contains(", line 1: no answer for 'refs/s/") && line.contains(": a part of it ends with .lock. ");
+    assert!(ran.err.lines().all(is_told));
 }
 
 /// The records say how long their ids are.
@@ -258,11 +270,7 @@ fn the_kind_is_that_of_the_records() {
     run(&["report", &long]).is(0, "total: 1 record, 0 damaged, 0 out of order, 120 bytes\n", "");
     // damaged elsewhere it has that kind too
     let hurt = dir.file("hurt", format!("{HEADER}{}{}", long_record('?', "refs/a/a"), long_record('1', name)).as_bytes());
-    run(&["lookup", &hurt, name]).is(
-        0,
-        &format!("0 charted {name} {} byte 120\n", long_id('1')),
-        "charted, but in a file that does not pass the check: ",
-    );
+    run(&["lookup", &hurt, name]).is(0, &format!("0 charted {name} {} byte 120\n", long_id('1')), IN_DAMAGED_FILE);
     run(&["lookup", &hurt, "refs/a/a"]).is(2, "", "line 2: no answer for 'refs/a/a': number 41: ");
     let report = run(&["report", &hurt]);
     let line = format!("41 damaged: item 2, byte 46, line 2, a record's id can't be read: {} refs/a/a\n", long_id('?'));
@@ -291,11 +299,7 @@ fn the_kind_is_that_of_the_records() {
     for args in [&["check", &mixed][..], &["lookup", &mixed, name], &["list", &mixed], &["report", &mixed]] {
         run(args).is(2, "", "1 record with ids of 40 digits can be read, and 1 with 64: two tables were mixed. Do not send.");
     }
-    run(&["lookup", &mixed, name, "--sha1"]).is(
-        0,
-        &format!("0 charted {name} {} byte 0\n", id('1')),
-        "charted, but in a file that does not pass the check: ",
-    );
+    run(&["lookup", &mixed, name, "--sha1"]).is(0, &format!("0 charted {name} {} byte 0\n", id('1')), IN_DAMAGED_FILE);
     run(&["lookup", &mixed, "refs/s/b", "--sha1"]).is(2, "", "line 2: no answer for 'refs/s/b': number 42: ");
     let none = dir.file("none", b"rubbish\n\n");
     for args in [&["check", &none][..], &["lookup", &none, name], &["list", &none]] {

@@ -33,24 +33,41 @@ fn the_page_says_what_the_messages_say() {
     assert_eq!(page.len(), rows.len(), "as many rows");
     for (row, cells) in rows.iter().zip(&page) {
         let beside = if REFUSALS.iter().any(|reason| reason.row() == *row) { row.beside.words() } else { "see below" };
-        let wanted = [&row.number.to_string(), row.meaning, beside, row.sender, row.person];
+        let example = example_in(&cells[1]).map_or(String::new(), |example| format!("{AS_IN}{example}`"));
+        let meaning = format!("{}{example}", row.meaning);
+        let wanted = [&row.number.to_string(), &meaning, beside, row.sender, row.person];
         assert_eq!(cells[..5], wanted, "the page's row should be:\n| {} | {}\n", wanted.join(" | "), cells[5..].join(" | "));
     }
 }
 
-/// The page's examples of bad records, ``- NUMBER: `LINES` what is wrong``: each gives its number, at its front, and each number has one.
+/// What stands before an example line in a row of the page.
+const AS_IN: &str = ", as in `";
+
+fn example_in(meaning: &str) -> Option<&str> {
+    meaning.split_once(AS_IN).map(|(_, rest)| rest.trim_end_matches('`'))
+}
+
+/// Whether an example of the page is bad at its front, with that number.
+fn holds(number: u32, example: &str) {
+    let lines = example.replace("\\r", "\r").replace("\\n", "\n");
+    let error = Table::check(IdKind::Sha1, &lines).expect_err(example);
+    assert_eq!((error.number(), error.place()), (number, Some(0)), "{example}");
+}
+
+/// The row of each bad record has an example line, and below the table stand more, ``- NUMBER: `LINES` what is wrong``.
 #[test]
 fn the_examples_of_bad_records_give_their_numbers() {
-    let mut seen = BTreeSet::new();
+    let is_bad_record = |number: u32| REFUSALS.iter().any(|reason| reason.number() == number && reason.is_bad_record());
+    for cells in page() {
+        let number = cells[0].parse::<u32>().unwrap();
+        let example = example_in(&cells[1]);
+        assert_eq!(example.is_some(), is_bad_record(number), "the row of number {number}");
+        example.into_iter().for_each(|example| holds(number, example));
+    }
     for line in read("docs/NUMBERS.md").lines() {
         let Some((number, rest)) = line.strip_prefix("- ").and_then(|item| item.split_once(": `")) else { continue };
-        let (number, example) = (number.parse::<u32>().expect(line), rest.split('`').next().expect(line));
-        let lines = example.replace("\\r", "\r").replace("\\n", "\n");
-        let error = Table::check(IdKind::Sha1, &lines).expect_err(line);
-        assert_eq!((error.number(), error.place()), (number, Some(0)), "{line}");
-        seen.insert(number);
+        holds(number.parse().expect(line), rest.split('`').next().expect(line));
     }
-    assert_eq!(seen, REFUSALS.iter().filter(|reason| reason.is_bad_record()).map(|reason| reason.number()).collect());
 }
 
 /// What the definitions of numbers give: for each `..Number` in the crates' specs, the numbers and the other such definitions in its clauses.
@@ -123,10 +140,13 @@ fn no_advice_makes_a_charted_name_absent() {
         for harmful in ["put back", "Delete", "split.", "restore the file"] {
             assert!(!advice.contains(harmful), "number {}: {advice}", row.number);
         }
-        // last night's file is where a single line is taken from, if it is clear which
+        // last night's file is where a single line is taken from, if it is clear which, and if it is not another name's
         let lines_from =
             advice.matches("restore the line at that place").count() * advice.matches("file if exactly one line there").count();
         assert_eq!(advice.matches("last night's").count(), lines_from, "number {}: {advice}", row.number);
+        let of_no_other = ", and that name stands nowhere else in this file, else from the chart or from another copy.";
+        assert_eq!(advice.matches(of_no_other).count(), lines_from, "number {}: {advice}", row.number);
+        assert_eq!(lines_from, usize::from([42, 43].contains(&row.number)), "number {}: {advice}", row.number);
         // an older file is named only with what it loses
         if advice.contains("older file") {
             assert!(advice.contains("sent again"), "number {}: {advice}", row.number);
@@ -138,6 +158,15 @@ fn no_advice_makes_a_charted_name_absent() {
         // a line may hold a second one, which must not get lost with it
         if (41..=44).contains(&row.number) {
             assert!(advice.contains("If two lines ran into one there, restore both."), "number {}: {advice}", row.number);
+        }
+        // a line that begins with ^ may have been a record
+        for (number, words) in [
+            (41, "If a name stands in it, it was a record: restore it as one."),
+            (45, "If a name stands in the ^ line, a record became it or ran into it: restore that one as a line of its own."),
+            (45, "If another copy has no ^ line there, or the record's id names no tag, a record stood there: restore that record."),
+            (45, "Do not delete the ^ line: it may have been a record."),
+        ] {
+            assert!(row.number != number || advice.contains(words), "number {number}: {advice}");
         }
         let is_answer = ANSWERS.contains(&row);
         let holds_back = row.sender == "Do not send." || row.sender == "Hold back what the list names: nothing was written.";

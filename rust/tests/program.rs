@@ -1,7 +1,7 @@
 //! Every command of the program, and every exit status.
 mod common;
 
-use common::{id, record, Dir, Ran, HEADER};
+use common::{id, record, Dir, Ran, HEADER, IN_DAMAGED_FILE};
 use packed_refs::Reason;
 use std::io::Write;
 use std::process::{Command, Stdio};
@@ -12,10 +12,6 @@ const EDITS: &str = concat!(env!("CARGO_MANIFEST_DIR"), "/../examples/edits");
 const E2: &str = "refs/sent/ward4/o118/e2";
 const E3: &str = "refs/sent/ward4/o118/e3";
 const E4: &str = "refs/sent/ward4/o118/e4";
-
-const CHARTED_IN_DAMAGED_FILE: &str =
-    "charted, but in a file that does not pass the check: the record may itself be what the damage made. Stop, do not \
-                                       send, and call someone, who runs report on the file. Its first fault: ";
 
 fn run(args: &[&str]) -> Ran {
     common::run(args, b"")
@@ -110,7 +106,7 @@ fn lookup() {
     run(&["lookup", NIGHT, "refs/sent//e4"]).is(2, "", "no answer for 'refs/sent//e4': number 3: ");
     run(&["lookup", NIGHT, ""]).is(2, "", "number 3: ");
     // what stands elsewhere is still charted, and that the file is damaged is told beside it; what can't be read is never absent
-    run(&["lookup", DAMAGED, E3]).is(0, &charted, &format!("packed-refs: {CHARTED_IN_DAMAGED_FILE}{DAMAGED}, line 15: number 41: "));
+    run(&["lookup", DAMAGED, E3]).is(0, &charted, &format!("{IN_DAMAGED_FILE}{DAMAGED}, line 15: number 41: "));
     run(&["lookup", DAMAGED, E2]).is(2, "", "number 41: ");
     run(&["lookup", DAMAGED, E4]).is(2, "", "number 41: ");
     // of several the worst decides, in any order
@@ -205,7 +201,7 @@ fn the_bad_part_is_told() {
             (&["refs/s/a", "refs/s/c"], format!("{charted_a}{charted_c}")),
         ] {
             let ran = run(&[&["lookup", &table][..], names].concat());
-            ran.is(0, &told, &format!("packed-refs: {CHARTED_IN_DAMAGED_FILE}{table}, line 2: {wrong}\n"));
+            ran.is(0, &told, &format!("{IN_DAMAGED_FILE}{table}, line 2: {wrong}\n"));
             assert_eq!(ran.err.lines().count(), 1, "{ran:?}");
         }
 
@@ -216,11 +212,38 @@ fn the_bad_part_is_told() {
         assert!(report.out.starts_with(&format!("{number} damaged: item 2, byte 50, line 2, {part}: 2")), "{report:?}");
         assert!(report.out.contains(&format!("\nwhat to do about {number}: {} {}\n", row.sender, row.person)), "{report:?}");
     }
-    // the ^ line itself is an item behind its record
-    let report = run(&["report", &dir.file("table", format!("{}^zz\n", record('2', "refs/s/b")).as_bytes())]);
-    let second =
-        "\n41 damaged: item 2, byte 50, line 2, a record's id can't be read (it is a ^ line, and belongs to the record above it): ^zz\n";
-    assert!(report.out.starts_with("45 damaged: item 1, byte 0, line 1, ") && report.out.contains(second), "{report:?}");
+}
+
+/// What begins with ^ where a record should stand is the rest of a record that is bad or missing, or was one itself: nothing is said that would have it
+/// thrown away.
+#[test]
+fn a_line_that_begins_with_a_caret_may_have_been_a_record() {
+    let dir = Dir::new();
+    let (a, b, peeled) = (record('1', "refs/s/a"), record('2', "refs/s/b"), format!("^{}\n", id('3')));
+    let rest = "it begins with ^: the ^ line of a record that is bad or missing, or a record that lost its first digit";
+    let was_record = "it begins with ^ but holds a name: it was a record";
+    let lost_digit = format!("^{} refs/s/c\n", &id('2')[1..]);
+    for (before, line, more) in [
+        // below a record, whose 45 comes first, and which is then no longer read with it
+        (b.clone(), "^zz\n", rest),
+        (b.clone(), lost_digit.as_str(), was_record),
+        // a second one, and one at the file's front
+        (format!("{a}{peeled}"), peeled.as_str(), rest),
+        (format!("{a}{peeled}"), &lost_digit, was_record),
+        (String::new(), &peeled, rest),
+        (String::new(), &lost_digit, was_record),
+    ] {
+        let table = dir.file("table", format!("{before}{line}").as_bytes());
+        let (at, text) = (before.len(), line.trim_end());
+        let (item, number) = (if before.is_empty() { 1 } else { 2 }, before.lines().count() + 1);
+        let told = format!("41 damaged: item {item}, byte {at}, line {number}, a record's id can't be read ({more}): {text}\n");
+        let report = run(&["report", &table]);
+        assert!(report.status == 2 && report.out.contains(&told), "{told}{report:?}");
+        assert_eq!(report.out.starts_with("45 damaged: item 1, byte 0, line 1, "), before == b, "{report:?}");
+        let told = format!("number 41: a record's id can't be read ({more}); item {item}, it starts at byte {at}: {text}\n");
+        let listed = run(&["list", &table]);
+        assert!(listed.status == 2 && listed.err.contains(&told), "{told}{listed:?}");
+    }
 }
 
 #[test]

@@ -12,8 +12,8 @@ use parse::limit::Admission;
 pub enum Refusal {
     // A first line that begins with # but can't be read as a header: the length of its text.
     BadHeader(usize),
-    // The first item that is an error, and which part of it can't be read.
-    BadRecord { place: usize, fault: Fault },
+    // The first item that is an error: which part of it can't be read, and where it starts.
+    BadRecord { fault: Fault, place: usize },
     // The first record whose name isn't greater than the one before.
     Unsorted(usize),
 }
@@ -114,7 +114,7 @@ pub fn take_turn(t: &[u8; 256], n: usize, file: &[u8], place: usize, last: &[u8]
     }
     let rest = &file[place..];
     match decode::reference::reference(t, rest, n) {
-        Reading::Bad(fault) => Turn::Refused(Refusal::BadRecord { place, fault }),
+        Reading::Bad(fault) => Turn::Refused(Refusal::BadRecord { fault, place }),
         Reading::Good(found) => {
             if !compare::order::is_less(last, decode::reference::name_of(rest, n, found)) {
                 return Turn::Refused(Refusal::Unsorted(place));

@@ -8,6 +8,10 @@ use std::sync::atomic::{AtomicUsize, Ordering};
 
 pub const PROGRAM: &str = env!("CARGO_BIN_EXE_packed-refs");
 
+/// What is said before the first fault of a file that does not pass the check: once, and so of all that is charted there.
+pub const IN_DAMAGED_FILE: &str = "packed-refs: every name that is charted here stands in a file that does not pass the check: its record may itself \
+                                   be what the damage made. Stop, do not send, and call someone, who runs report on the file. Its first fault: ";
+
 #[derive(Debug)]
 pub struct Ran {
     /// The exit status, or the number of the signal that ended it, made negative.

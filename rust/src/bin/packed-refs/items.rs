@@ -15,10 +15,22 @@ pub fn shown(damage: &Damage<'_>) -> String {
 /// Which part of it is bad, and what more can be said of that.
 pub fn bad_part(damage: &Damage<'_>) -> String {
     let meaning = damage.reason.row().meaning;
-    match damage.reason {
-        Reason::BadId if damage.text.starts_with(b"^") => format!("{meaning} (it is a ^ line, and belongs to the record above it)"),
-        Reason::BadPeeled => format!("{meaning} (it is the line below this one)"),
-        _ => broken_rule(damage).map_or(meaning.to_string(), |rule| format!("{meaning} ({rule})")),
+    let more = match damage.reason {
+        Reason::BadId => caret_line(damage.text),
+        Reason::BadPeeled => Some("it is the line below this one"),
+        _ => broken_rule(damage),
+    };
+    more.map_or(meaning.to_string(), |more| format!("{meaning} ({more})"))
+}
+
+/// What a line may have been that begins with ^ where a record should stand. A ^ line holds no space.
+fn caret_line(text: &[u8]) -> Option<&'static str> {
+    if !text.starts_with(b"^") {
+        None
+    } else if text.contains(&b' ') {
+        Some("it begins with ^ but holds a name: it was a record")
+    } else {
+        Some("it begins with ^: the ^ line of a record that is bad or missing, or a record that lost its first digit")
     }
 }
 

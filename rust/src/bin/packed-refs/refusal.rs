@@ -31,22 +31,23 @@ impl Refusal {
 
     /// Of the library, about a table: which file, which line, which number, what to do. `about` stands before the number.
     pub fn of(input: &Input, about: &str, error: &Error) -> Refusal {
-        Refusal::at(input, error.place_in_file().map(|place| input.line(place)), about, error)
+        Refusal::at(input, &Fault::of(input, error), about, error)
     }
 
-    /// The same where the line is known.
-    fn at(input: &Input, line: Option<usize>, about: &str, error: &Error) -> Refusal {
-        let words = format!("{}: {about}{}. {}", whereabouts(input, line), fault_of(input, error), error.what_to_do());
+    /// The same where the fault is in words already.
+    fn at(input: &Input, fault: &Fault, about: &str, error: &Error) -> Refusal {
+        let words = format!("{}: {about}{}. {}", fault.whereabouts(input), fault.words, error.what_to_do());
         let (number, file) = (Some(error.number()), Some(input.given.clone()));
-        Refusal { words, number, file, line, byte: error.place_in_file(), name: None }
+        Refusal { words, number, file, line: fault.line, byte: error.place_in_file(), name: None }
     }
 
-    /// Of the library, about a name that is asked for: what is wrong with the name, or with the table, whose first fault is on that line.
-    pub fn of_name(input: &Input, line: Option<usize>, name: &[u8], error: &Error) -> Refusal {
+    /// Of the library, about a name that is asked for: what is wrong with the name, or with the table, whose first fault that is.
+    pub fn of_name(input: &Input, fault: Option<&Fault>, name: &[u8], error: &Error) -> Refusal {
         let about = format!("no answer for {}: ", Quoted(name));
-        let refusal = match error.place_in_file() {
-            Some(_) => Refusal::at(input, line, &about, error),
-            None => {
+        let refusal = match (error.place_in_file(), fault) {
+            (Some(_), Some(fault)) => Refusal::at(input, fault, &about, error),
+            (Some(_), None) => Refusal::of(input, &about, error),
+            (None, _) => {
                 let rule = if error.reason() == Reason::BadName { format!(": {}", rule::broken(name)) } else { String::new() };
                 let words = format!("{about}{}{rule}. {}", error.what_is_wrong(), error.what_to_do());
                 Refusal { number: Some(error.number()), ..Refusal::new(words) }
@@ -68,13 +69,30 @@ impl Refusal {
     }
 }
 
-/// The file, and the line where that is known.
-pub fn whereabouts(input: &Input, line: Option<usize>) -> String {
-    format!("{}{}", input.name, line.map_or(String::new(), |line| format!(", line {line}")))
+/// The first fault of a table in words. A bad line may be long: who tells of it often keeps this.
+pub struct Fault {
+    line: Option<usize>,
+    words: String,
+}
+
+impl Fault {
+    pub fn of(input: &Input, error: &Error) -> Fault {
+        Fault { line: error.place_in_file().map(|place| input.line(place)), words: fault_of(input, error) }
+    }
+
+    /// Where it is, and what.
+    pub fn told(&self, input: &Input) -> String {
+        format!("{}: {}", self.whereabouts(input), self.words)
+    }
+
+    /// The file, and the line where that is known.
+    fn whereabouts(&self, input: &Input) -> String {
+        format!("{}{}", input.name, self.line.map_or(String::new(), |line| format!(", line {line}")))
+    }
 }
 
 /// What is wrong with a table; of a record whose name is bad, the name too, and the rule that it breaks.
-pub fn fault_of(input: &Input, error: &Error) -> String {
+fn fault_of(input: &Input, error: &Error) -> String {
     let wrong = error.what_is_wrong();
     match (error.reason(), error.place_in_file()) {
         (Reason::BadRecordName, Some(place)) => {

@@ -8,7 +8,7 @@ use crate::kind::{judge, Judged};
 use crate::names;
 use crate::output::{say, Out};
 use crate::progress::Progress;
-use crate::refusal::{fault_of, whereabouts, Refusal, Trouble};
+use crate::refusal::{Fault, Refusal, Trouble};
 use crate::words::{count, Quoted};
 use crate::Status;
 use packed_refs::{ask_many, Asked, Error, Escaped, Found, Reason, Record};
@@ -42,8 +42,8 @@ fn hangs_on_the_end(settings: &Settings, input: &Input, names: &[&[u8]]) -> Resu
 struct Asking<'a, 'o> {
     input: &'a Input,
     judged: &'a Judged<'a>,
-    /// The line of the table's first fault, if it has one.
-    line: Option<usize>,
+    /// The table's first fault, if it has one.
+    fault: Option<Fault>,
     /// Absent is said only of a table of so many records.
     least: usize,
     out: &'o mut Out,
@@ -55,12 +55,12 @@ struct Asking<'a, 'o> {
 
 impl<'a, 'o> Asking<'a, 'o> {
     fn new(settings: &Settings, input: &'a Input, judged: &'a Judged<'a>, out: &'o mut Out) -> Asking<'a, 'o> {
-        let line = judged.check.as_ref().err().and_then(Error::place_in_file).map(|place| input.line(place));
+        let fault = judged.check.as_ref().err().map(|error| Fault::of(input, error));
         let least = settings.records.unwrap_or(0);
-        Asking { input, judged, line, least, out, worst: Status::Done, some_absent: false, is_warned: false }
+        Asking { input, judged, fault, least, out, worst: Status::Done, some_absent: false, is_warned: false }
     }
 
-    /// In a table that passes each name is a few probes. In another one all names are asked for in one pass.
+    /// In a table that passes each name is a few probes. In another one all names are asked for at once.
     fn ask(&mut self, names: &[&[u8]]) -> Result<(), Trouble> {
         let progress = Progress::new(format!("asking {}", self.input.name), Some(names.len()));
         match &self.judged.check {
@@ -91,7 +91,7 @@ impl<'a, 'o> Asking<'a, 'o> {
                 Status::Done
             }
             Ok(Asked::Absent) => self.absent(name)?,
-            Err(error) => self.refuse(Refusal::of_name(self.input, self.line, name, &error))?,
+            Err(error) => self.refuse(Refusal::of_name(self.input, self.fault.as_ref(), name, &error))?,
         };
         self.worst = self.worst.max(status);
         Ok(())
@@ -107,12 +107,13 @@ impl<'a, 'o> Asking<'a, 'o> {
         })?)
     }
 
-    /// Says once, behind the first such name, that the file does not pass the check: with --quiet too, since the exit status does not say it.
+    /// Says once, behind the first such name and for all of them, that the file does not pass the check: with --quiet too, since the exit status does not
+    /// say it.
     fn warn(&mut self) -> Result<(), Trouble> {
-        let (Err(error), false) = (&self.judged.check, self.is_warned) else { return Ok(()) };
+        let (Some(fault), false) = (&self.fault, self.is_warned) else { return Ok(()) };
         self.is_warned = true;
         self.out.flush()?;
-        say(charted_in_damaged_file(self.input, self.line, error));
+        say(charted_in_damaged_file(&fault.told(self.input)));
         Ok(())
     }
 
@@ -137,12 +138,10 @@ impl<'a, 'o> Asking<'a, 'o> {
     }
 }
 
-fn charted_in_damaged_file(input: &Input, line: Option<usize>, error: &Error) -> String {
+fn charted_in_damaged_file(first_fault: &str) -> String {
     format!(
-        "charted, but in a file that does not pass the check: the record may itself be what the damage made. Stop, do not send, and call someone, who \
-         runs report on the file. Its first fault: {}: {}",
-        whereabouts(input, line),
-        fault_of(input, error)
+        "every name that is charted here stands in a file that does not pass the check: its record may itself be what the damage made. Stop, do not \
+         send, and call someone, who runs report on the file. Its first fault: {first_fault}"
     )
 }
 
