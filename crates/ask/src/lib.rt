@@ -79,7 +79,7 @@ pub(crate) fn ask_body(t: &[u8; 256], n: usize, file: &[u8], body: usize, name: 
             }
             Turn::Refused(why) => {
                 let sought = first_named(t, n, file, place, name);
-                return tell(sought, Verdict::Refused(why));
+                return tell(sought, checks::refused(why));
             }
             Turn::On(found) => {
                 last = decode::reference::name_of(&file[place..], n, found);

@@ -36,7 +36,7 @@ module _ (byte : Classes) (n : ℕ) (file : List ℕ) where
       of-body : (h : Header) → headerOf byte file ≡ opened.Header h → (v : Verdict) → Says n (h .body) (items byte n (drop (h .body) file)) v → Means byte n file v
       of-body h q (Clean count) x = record { header = h; reads = q; holds = x }
       of-body h q (Refused (BadHeader text)) x = absurd x
-      of-body h q (Refused (BadRecord f place)) x = record { header = h; reads = q; holds = x }
+      of-body h q (Refused (BadRecord place f)) x = record { header = h; reads = q; holds = x }
       of-body h q (Refused (Unsorted place)) x = record { header = h; reads = q; holds = x }
 
       go : (o : Opened) → headerOf byte file ≡ o → Means byte n file (checkOf byte n file)
@@ -46,7 +46,7 @@ module _ (byte : Classes) (n : ℕ) (file : List ℕ) where
   only-then : (v : Verdict) → Means byte n file v → checkOf byte n file ≡ v
   only-then (Clean count) b = read (b .reads) ∙ judges n _ _ (b .holds)
   only-then (Refused (BadHeader text)) e = unread e
-  only-then (Refused (BadRecord f place)) b = read (b .reads) ∙ judges-error n _ _ (b .holds)
+  only-then (Refused (BadRecord place f)) b = read (b .reads) ∙ judges-error n _ _ (b .holds)
   only-then (Refused (Unsorted place)) b = read (b .reads) ∙ judges-unsorted n _ _ (b .holds)
 
   pub check-means : CheckMeans byte n file
@@ -63,7 +63,7 @@ some-fault Peeled e = omega arith
 
 pub some-refusal : (why : Refusal) → refusalNumber why ≡ 0 → ⊥
 some-refusal (BadHeader text) e = omega arith
-some-refusal (BadRecord f place) e = some-fault f e
+some-refusal (BadRecord place f) e = some-fault f e
 some-refusal (Unsorted place) e = omega arith
 
 pub zero-clean : (v : Verdict) → verdictNumber v ≡ 0 → (count : ℕ) × (v ≡ Clean count)

@@ -59,7 +59,7 @@ module _ (s : Spot) where
   -- a refusal is told with the turn's place, and no turn speaks of the header
   abbrev pub Stopped : Refusal → Type 0
   Stopped (BadHeader text) = ⊥
-  Stopped (BadRecord f place) = (place ≡ s .place) × Read (Bad f)
+  Stopped (BadRecord place f) = (place ≡ s .place) × Read (Bad f)
   Stopped (Unsorted place) = (place ≡ s .place) × (r : Record) × Read (Good r) × (smaller (s .last) (nameHere r) ≡ false)
 
   abbrev pub Turned : Turn → Type 0
@@ -103,7 +103,7 @@ module _ (s : Spot) where
   judged count End h = rw (drop-of-length-le (s .file) h, items-nil (s .byte) (s .n))
   judged count (On r) (k, e) = let h = head r k in rw (h .all, h .is, h .name, h .long, e)
   judged count (Refused (BadHeader text)) x = absurd x
-  judged count (Refused (BadRecord f place)) (here, k) =
+  judged count (Refused (BadRecord place f)) (here, k) =
       let h = head-bad (s .byte) (s .n) (s .file) (s .place) (k .inside) f (k .is) in rw (here, h .all, h .is)
   judged count (Refused (Unsorted place)) (here, r, k, e) = let h = head r k in rw (here, h .all, h .is, h .name, h .long, e)
 

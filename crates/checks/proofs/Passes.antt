@@ -42,7 +42,7 @@ turn n last i = go (i .what) refl (orderOf last (nameOf n i)) refl
     go (Good r) e Equal u = inl (unsorted (rw e) (λ z. let x : _≡_ {A = ℕ} 0 1 = cc in omega arith))
     go (Good r) e Greater u = inl (unsorted (rw e) (λ z. let x : _≡_ {A = ℕ} 0 1 = cc in omega arith))
 
-good-else : (w : Reading) (place : ℕ) (v : Verdict) → isGood w ≡ true → decoded w (λ r. v) (λ f. Refused (BadRecord f place)) ≡ v
+good-else : (w : Reading) (place : ℕ) (v : Verdict) → isGood w ≡ true → decoded w (λ r. v) (λ f. Refused (BadRecord place f)) ≡ v
 good-else (Good r) place v g = refl
 good-else (Bad f) place v g = cc
 
@@ -52,7 +52,7 @@ not-less Equal h = refl
 not-less Greater h = refl
 
 abbrev refusal : {n : ℕ} {last : List ℕ} {i : Item} → Stop n last i → ℕ → Refusal
-refusal (error f e) place = BadRecord f place
+refusal (error f e) place = BadRecord place f
 refusal (unsorted g u) place = Unsorted place
 
 module _ (n place count : ℕ) (last : List ℕ) (i : Item) (l : List Item) where
@@ -125,7 +125,7 @@ module _ (n begin : ℕ) (l : List Item) where
   reached : {place : ℕ} → (x : FirstFault n begin l place) → Reached n [] l (x .before) (x .it)
   reached x = record { after = x .after; all = x .all; good = x .good; up = x .up }
 
-  pub judges-error : {place : ℕ} {f : Fault} → FirstError n begin l place f → judge n begin 0 [] l ≡ Refused (BadRecord f place)
+  pub judges-error : {place : ℕ} {f : Fault} → FirstError n begin l place f → judge n begin 0 [] l ≡ Refused (BadRecord place f)
   judges-error {place} {f} h = rw (h .first .here) (judge-stops (reached (h .first)) (error f (h .is)))
 
   pub judges-unsorted : {place : ℕ} → FirstUnsorted n begin l place → judge n begin 0 [] l ≡ Refused (Unsorted place)
@@ -136,7 +136,7 @@ module _ (n begin : ℕ) (l : List Item) where
   abbrev pub Says : Verdict → Type 0
   Says (Clean m) = Passes n l m
   Says (Refused (BadHeader text)) = ⊥
-  Says (Refused (BadRecord f place)) = FirstError n begin l place f
+  Says (Refused (BadRecord place f)) = FirstError n begin l place f
   Says (Refused (Unsorted place)) = FirstUnsorted n begin l place
 
   abbrev fault : {before : List Item} {it : Item} → Reached n [] l before it → FirstFault n begin l (begin + length (bytesOf before))

@@ -29,7 +29,7 @@ judge n place count last [] = Clean count
 judge n place count last (i ∷ l) =
     decoded (i .what)
     (λ r. if (smaller last (nameOf n i)) (judge n (place + length (i .bytes)) (suc count) (nameOf n i) l) (Refused (Unsorted place)))
-    (λ f. Refused (BadRecord f place))
+    (λ f. Refused (BadRecord place f))
 
 -- the items of a file from a place on
 abbrev pub judgeFrom : Classes → ℕ → List ℕ → ℕ → ℕ → List ℕ → Verdict
@@ -50,7 +50,7 @@ checkAnswer kind file = admit (admission kind (length file) 0) (λ n. Done (chec
 -- than the record's before it"
 abbrev pub refusalNumber : Refusal → ℕ
 refusalNumber (BadHeader k) = 2
-refusalNumber (BadRecord f place) = faultNumber f
+refusalNumber (BadRecord place f) = faultNumber f
 refusalNumber (Unsorted place) = 6
 
 abbrev pub verdictNumber : Verdict → ℕ
@@ -72,7 +72,7 @@ countBefore count place = if (ltb count place) count place
 
 abbrev pub turnBy : ℕ → List ℕ → List ℕ → ℕ → Reading → Turn
 turnBy n last rest place (Good r) = if (smaller last (nameIn n (Good r) rest)) (turn.On r) (turn.Refused (Unsorted place))
-turnBy n last rest place (Bad f) = turn.Refused (BadRecord f place)
+turnBy n last rest place (Bad f) = turn.Refused (BadRecord place f)
 
 unfoldable pub turnOf : Classes → ℕ → List ℕ → ℕ → List ℕ → Turn
 turnOf byte n file place last =

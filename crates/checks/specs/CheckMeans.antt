@@ -25,7 +25,7 @@ pub record Body (byte : Classes) (n : ℕ) (file : List ℕ) (P : ℕ → List I
 abbrev pub Means : Classes → ℕ → List ℕ → Verdict → Type 0
 Means byte n file (Clean count) = Body byte n file (λ begin l. Passes n l count)
 Means byte n file (Refused (BadHeader text)) = headerOf byte file ≡ opened.Unreadable text
-Means byte n file (Refused (BadRecord f place)) = Body byte n file (λ begin l. FirstError n begin l place f)
+Means byte n file (Refused (BadRecord place f)) = Body byte n file (λ begin l. FirstError n begin l place f)
 Means byte n file (Refused (Unsorted place)) = Body byte n file (λ begin l. FirstUnsorted n begin l place)
 
 abbrev pub CheckMeans : Classes → ℕ → List ℕ → Type 0

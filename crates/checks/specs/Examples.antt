@@ -44,16 +44,16 @@ cases =
     -- empty bytes: no items, and no records
     record { bytes = []; out = []; verdict = Clean 0 }
     -- an error's text is its bytes less the last one: `x` of `x` LF, nothing of `x` alone
-    ∷ record { bytes = 120 ∷ 10 ∷ []; out = error 1 (120 ∷ []) ∷ []; verdict = Refused (BadRecord Id 0) }
-    ∷ record { bytes = 120 ∷ []; out = error 1 [] ∷ []; verdict = Refused (BadRecord Id 0) }
+    ∷ record { bytes = 120 ∷ 10 ∷ []; out = error 1 (120 ∷ []) ∷ []; verdict = Refused (BadRecord 0 Id) }
+    ∷ record { bytes = 120 ∷ []; out = error 1 [] ∷ []; verdict = Refused (BadRecord 0 Id) }
     -- a second line that can't be read makes the record bad, and each line is an error of its own
     ∷ record {
       bytes = line (10 ∷ 94 ∷ 122 ∷ 122 ∷ 10 ∷ []);
       out = error 1 (line []) ∷ error 2 (94 ∷ 122 ∷ 122 ∷ []) ∷ [];
-      verdict = Refused (BadRecord Peeled 0);
+      verdict = Refused (BadRecord 0 Peeled);
     }
     -- CR LF ends a line; a bare CR does not, and the end of the bytes does not
     ∷ record { bytes = line (13 ∷ 10 ∷ []); out = good (record { name = refsS ++ 97 ∷ []; id = ones; peeled = none }) ∷ []; verdict = Clean 1 }
-    ∷ record { bytes = line (13 ∷ 98 ∷ 10 ∷ []); out = error 1 (line (13 ∷ 98 ∷ [])) ∷ []; verdict = Refused (BadRecord LineEnd 0) }
-    ∷ record { bytes = line []; out = error 1 (ones ++ 32 ∷ refsS) ∷ []; verdict = Refused (BadRecord LineEnd 0) }
+    ∷ record { bytes = line (13 ∷ 98 ∷ 10 ∷ []); out = error 1 (line (13 ∷ 98 ∷ [])) ∷ []; verdict = Refused (BadRecord 0 LineEnd) }
+    ∷ record { bytes = line []; out = error 1 (ones ++ 32 ∷ refsS) ∷ []; verdict = Refused (BadRecord 0 LineEnd) }
     ∷ []

@@ -1,6 +1,7 @@
 // The check of a whole file: every item a record, every name greater than the one before.
 ghost use mathlib.Core.Path.{_≡_};
 ghost use Rattle.class.specs.Class.{classesOf};
+ghost use Rattle.checks.specs.declared.Verdict.the-variants.{Refused};
 ghost use Rattle.checks.specs.Check.{checkOf, checkAnswer, judgeFrom, countBefore, turnOf};
 use decode::reference::Fault;
 use decode::reference::Reading;
@@ -12,8 +13,8 @@ use parse::limit::Admission;
 pub enum Refusal {
     // A first line that begins with # but can't be read as a header: the length of its text.
     BadHeader(usize),
-    // The first item that is an error: which part of it can't be read, and where it starts.
-    BadRecord { fault: Fault, place: usize },
+    // The first item that is an error, and which part of it can't be read.
+    BadRecord { place: usize, fault: Fault },
     // The first record whose name isn't greater than the one before.
     Unsorted(usize),
 }
@@ -74,7 +75,7 @@ pub fn check_from<'t, 'a>(
                 return Verdict::Clean(count);
             }
             Turn::Refused(why) => {
-                return Verdict::Refused(why);
+                return refused(why);
             }
             Turn::On(found) => {
                 last = decode::reference::name_of(&file[place..], n, found);
@@ -82,6 +83,20 @@ pub fn check_from<'t, 'a>(
                 place += found.size;
             }
         }
+    }
+}
+
+// The verdict where a pass ends at a fault. The refusal is made anew, case by case: handed on whole, as bytes, it would be copied in every turn of the
+// pass, since it lies where a record that is in order lies in `Turn`.
+pub fn refused(why: Refusal) -> Verdict
+    ensures { λ r. ⌜ r ≡ Refused why ⌝ }
+{
+    match why {
+        Refusal::BadHeader(text) => Verdict::Refused(Refusal::BadHeader(text)),
+        Refusal::BadRecord { place, fault } => {
+            Verdict::Refused(Refusal::BadRecord { place, fault })
+        }
+        Refusal::Unsorted(place) => Verdict::Refused(Refusal::Unsorted(place)),
     }
 }
 
@@ -114,7 +129,7 @@ pub fn take_turn(t: &[u8; 256], n: usize, file: &[u8], place: usize, last: &[u8]
     }
     let rest = &file[place..];
     match decode::reference::reference(t, rest, n) {
-        Reading::Bad(fault) => Turn::Refused(Refusal::BadRecord { fault, place }),
+        Reading::Bad(fault) => Turn::Refused(Refusal::BadRecord { place, fault }),
         Reading::Good(found) => {
             if !compare::order::is_less(last, decode::reference::name_of(rest, n, found)) {
                 return Turn::Refused(Refusal::Unsorted(place));

@@ -18,10 +18,10 @@ pub enum Fault {
 
 // A good record, by places counted from its start: the id stands at 0, the name behind the id and one space.
 pub struct Record {
-    // Where the peeled id stands, or 0 where there is none.
-    pub peeled: usize,
     // The name's length.
     pub name_len: usize,
+    // Where the peeled id stands, or 0 where there is none.
+    pub peeled: usize,
     // The bytes that the record takes, line ends included.
     pub size: usize,
 }

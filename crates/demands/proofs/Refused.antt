@@ -121,7 +121,7 @@ step-number stepped.TooLarge = refl
 check-number : (a : CheckAnswer) → AnsweredBy (checkNumber a) (0 ∷ 1 ∷ 17 ∷ 2 ∷ 6 ∷ badRecord)
 check-number (checked.Done (verdict.Clean count)) = refl
 check-number (checked.Done (verdict.Refused (refusal.BadHeader k))) = refl
-check-number (checked.Done (verdict.Refused (refusal.BadRecord f place))) = by-part (0 ∷ 1 ∷ 17 ∷ 2 ∷ 6 ∷ badRecord) refl refl refl refl refl f
+check-number (checked.Done (verdict.Refused (refusal.BadRecord place f))) = by-part (0 ∷ 1 ∷ 17 ∷ 2 ∷ 6 ∷ badRecord) refl refl refl refl refl f
 check-number (checked.Done (verdict.Refused (refusal.Unsorted place))) = refl
 check-number checked.UnknownKind = refl
 check-number checked.TooLarge = refl
@@ -164,7 +164,7 @@ ask-number (asked.Done (told.Charted place r v)) = refl
 ask-number (asked.Done told.Absent) = refl
 ask-number (asked.Done told.BadName) = refl
 ask-number (asked.Done (told.Refused (refusal.BadHeader k))) = refl
-ask-number (asked.Done (told.Refused (refusal.BadRecord f place))) = by-part (0 ∷ 1 ∷ 17 ∷ 3 ∷ 5 ∷ 2 ∷ 6 ∷ badRecord) refl refl refl refl refl f
+ask-number (asked.Done (told.Refused (refusal.BadRecord place f))) = by-part (0 ∷ 1 ∷ 17 ∷ 3 ∷ 5 ∷ 2 ∷ 6 ∷ badRecord) refl refl refl refl refl f
 ask-number (asked.Done (told.Refused (refusal.Unsorted place))) = refl
 ask-number asked.UnknownKind = refl
 ask-number asked.TooLarge = refl
@@ -179,7 +179,7 @@ told-fault n file name (told.Charted place r v) e =
     go : (begin : ℕ) (l : List Item) (v : Verdict) → Says n begin l v → AnsweredBy (verdictNumber v) (0 ∷ 6 ∷ badRecord)
     go begin l (verdict.Clean count) x = refl
     go begin l (verdict.Refused (refusal.BadHeader text)) x = absurd x
-    go begin l (verdict.Refused (refusal.BadRecord f at)) x = by-part (0 ∷ 6 ∷ badRecord) refl refl refl refl refl f
+    go begin l (verdict.Refused (refusal.BadRecord at f)) x = by-part (0 ∷ 6 ∷ badRecord) refl refl refl refl refl f
     go begin l (verdict.Refused (refusal.Unsorted at)) x = refl
 told-fault n file name told.Absent e = refl
 told-fault n file name told.BadName e = refl
@@ -212,7 +212,7 @@ merge-number (BadList (fault.TooMany place)) = refl
 merge-number ShortIndex = refl
 merge-number (Twins place) = refl
 merge-number (Refused (refusal.BadHeader k)) = refl
-merge-number (Refused (refusal.BadRecord f place)) = by-part (0 ∷ 1 ∷ 17 ∷ 7 ∷ 8 ∷ 9 ∷ 10 ∷ 11 ∷ 13 ∷ 14 ∷ 12 ∷ 2 ∷ 6 ∷ badRecord) refl refl refl refl refl f
+merge-number (Refused (refusal.BadRecord place f)) = by-part (0 ∷ 1 ∷ 17 ∷ 7 ∷ 8 ∷ 9 ∷ 10 ∷ 11 ∷ 13 ∷ 14 ∷ 12 ∷ 2 ∷ 6 ∷ badRecord) refl refl refl refl refl f
 merge-number (Refused (refusal.Unsorted place)) = refl
 merge-number NothingToDo = refl
 merge-number NoRecord = refl
@@ -255,11 +255,11 @@ kept-out new out m not-done = rw (ne-eqb (mergeNumber m) 0 not-done)
 -- behind 11 no number is given that stands before it
 refusal-late : (why : Refusal) → beforeEleven (refusalNumber why) ≡ false
 refusal-late (refusal.BadHeader k) = refl
-refusal-late (refusal.BadRecord Id place) = refl
-refusal-late (refusal.BadRecord Space place) = refl
-refusal-late (refusal.BadRecord LineEnd place) = refl
-refusal-late (refusal.BadRecord Name place) = refl
-refusal-late (refusal.BadRecord Peeled place) = refl
+refusal-late (refusal.BadRecord place Id) = refl
+refusal-late (refusal.BadRecord place Space) = refl
+refusal-late (refusal.BadRecord place LineEnd) = refl
+refusal-late (refusal.BadRecord place Name) = refl
+refusal-late (refusal.BadRecord place Peeled) = refl
 refusal-late (refusal.Unsorted place) = refl
 
 finished-late : (olds : List Entry) (edits : List Override) (room : ℕ) → beforeEleven (mergeNumber (finished olds edits room)) ≡ false

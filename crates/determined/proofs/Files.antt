@@ -20,6 +20,7 @@ files = record {
   checks-check = λ m k o o′. by-answer k o o′ refl;
   checks-check-using = λ m k o o′. by-answer k o o′ refl;
   checks-check-from = λ m k o o′. by-answer k o o′ refl;
+  checks-refused = λ m k o o′. by-answer k o o′ refl;
   checks-take-turn = λ m k o o′. by-answer k o o′ refl;
   loose-read = λ m k o o′. by-answer k o o′ refl;
   loose-read-using = λ m k o o′. by-answer k o o′ refl;

@@ -15,6 +15,7 @@ use Rattle.iterator.proofs.first
 use Rattle.checks.proofs.check
 use Rattle.checks.proofs.check_using
 use Rattle.checks.proofs.check_from
+use Rattle.checks.proofs.refused
 use Rattle.checks.proofs.take_turn
 use Rattle.loose.proofs.read
 use Rattle.loose.proofs.read_using
@@ -37,6 +38,7 @@ pub record Files : Type 2 where
   pub checks-check : Determined check.ended (λ M. check.clauses)
   pub checks-check-using : Determined check_using.ended (λ M. check_using.clauses)
   pub checks-check-from : Determined check_from.ended (λ M. check_from.clauses)
+  pub checks-refused : Determined refused.ended (λ M. refused.clauses)
   pub checks-take-turn : Determined take_turn.ended (λ M. take_turn.clauses)
   pub loose-read : Determined read.ended (λ M. read.clauses)
   pub loose-read-using : Determined read_using.ended (λ M. read_using.clauses)

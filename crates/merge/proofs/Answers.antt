@@ -42,9 +42,9 @@ module _ (new out : List ℕ) where
 
   pub old-refused : (why : Refusal) → outputBy new out (Refused why) ≡ out
   old-refused (BadHeader text) = refl
-  old-refused (BadRecord Id place) = refl
-  old-refused (BadRecord Space place) = refl
-  old-refused (BadRecord LineEnd place) = refl
-  old-refused (BadRecord Name place) = refl
-  old-refused (BadRecord Peeled place) = refl
+  old-refused (BadRecord place Id) = refl
+  old-refused (BadRecord place Space) = refl
+  old-refused (BadRecord place LineEnd) = refl
+  old-refused (BadRecord place Name) = refl
+  old-refused (BadRecord place Peeled) = refl
   old-refused (Unsorted place) = refl

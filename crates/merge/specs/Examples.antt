@@ -161,7 +161,7 @@ cases =
     -- 2 with the length of its text: `#x` CR LF
     ∷ refused 1 (35 ∷ 120 ∷ crlf) (delete 97) (7 ∷ []) (0 ∷ []) (Refused (BadHeader 2)) 2
     -- 41 and 6 with the item's place in the file, though there are deletes alone: `x` LF behind a record; `a` behind `b`
-    ∷ refused 1 (refLine 40 49 97 lf ++ 120 ∷ lf) (delete 98) (7 ∷ []) (0 ∷ []) (Refused (BadRecord Id 50)) 41
+    ∷ refused 1 (refLine 40 49 97 lf ++ 120 ∷ lf) (delete 98) (7 ∷ []) (0 ∷ []) (Refused (BadRecord 50 Id)) 41
     ∷ refused 1 (refLine 40 49 98 lf ++ refLine 40 49 97 lf) (delete 99) (7 ∷ []) (0 ∷ []) (Refused (Unsorted 50)) 6
     -- 13: deletes alone of absent names, one before and one behind the record; no edits; an empty old file and a delete
     ∷ refused 1 (refLine 40 49 98 lf) (delete 99 ++ delete 97) (7 ∷ 7 ∷ []) (10 ∷ 0 ∷ []) NothingToDo 13

@@ -41,10 +41,10 @@ cases =
     -- empty bytes: lookup of `refs/s/a` gives 5
     record { bytes = []; found = lookup.Absent; asked = told.Absent }
     -- a line that can't be read: never absent
-    ∷ record { bytes = 120 ∷ 10 ∷ []; found = lookup.Unsure; asked = told.Refused (BadRecord Id 0) }
+    ∷ record { bytes = 120 ∷ 10 ∷ []; found = lookup.Unsure; asked = told.Refused (BadRecord 0 Id) }
     -- a record of that name, and one of another
     ∷ record { bytes = line 97 []; found = lookup.Charted 0 (record { «name_len» = 8; peeled = 0; size = 50 }); asked = told.Charted 0 (record { «name_len» = 8; peeled = 0; size = 50 }) (Clean 1) }
     ∷ record { bytes = line 98 []; found = lookup.Absent; asked = told.Absent }
     -- a bad `^` line spoils the record before it: a hit gives 45 with its place
-    ∷ record { bytes = line 97 (94 ∷ 122 ∷ 122 ∷ 10 ∷ []); found = lookup.BadRecord 0 Peeled; asked = told.Refused (BadRecord Peeled 0) }
+    ∷ record { bytes = line 97 (94 ∷ 122 ∷ 122 ∷ 10 ∷ []); found = lookup.BadRecord 0 Peeled; asked = told.Refused (BadRecord 0 Peeled) }
     ∷ []

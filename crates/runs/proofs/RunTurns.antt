@@ -100,7 +100,7 @@ module _ (byte : Classes) (n : ℕ) (file list index : List ℕ) where
 pub marked-stop : (s : Spot) (list index : List ℕ) (j : ℕ) (marks : List ℕ) (why : Refusal) → Stopped s why
     → marked (s .byte) (s .n) (s .file) list index (s .place) (s .last) j marks ≡ marks
 marked-stop s list index j marks (BadHeader text) x = absurd x
-marked-stop s list index j marks (BadRecord f place) (here, k) = marked-bad (s .byte) (s .n) (s .file) list index (s .place) (s .last) j marks k
+marked-stop s list index j marks (BadRecord place f) (here, k) = marked-bad (s .byte) (s .n) (s .file) list index (s .place) (s .last) j marks k
 marked-stop s list index j marks (Unsorted place) (here, r, k, e) = marked-unsorted (s .byte) (s .n) (s .file) list index (s .place) (s .last) j marks k e
 
 -- in a file that passes there is no fault before an edit
@@ -118,7 +118,7 @@ surveyed-clean n list place count last (i ∷ l) ps all e =
 
     go : (w : Reading) (name : List ℕ) (b : Bool) → smaller last name ≡ b
         → ((qs : List ℕ) (c : ℕ) → judge n next (suc count) name l ≡ Clean c → surveyed n list next name l qs ≡ runsOf n list next l qs)
-        → decoded w (λ r. if (smaller last name) (judge n next (suc count) name l) (Refused (Unsorted place))) (λ f. Refused (BadRecord f place)) ≡ Clean all
+        → decoded w (λ r. if (smaller last name) (judge n next (suc count) name l) (Refused (Unsorted place))) (λ f. Refused (BadRecord place f)) ≡ Clean all
         → decoded w (λ r. if (smaller last name) (here name ++ surveyed n list next name l (drop (length (here name)) ps)) []) (λ f. [])
         ≡ here name ++ runsOf n list next l (drop (length (here name)) ps)
     go (Bad f) name b v later d = absurd (let z : _≡_ {A = ℕ} 0 1 = cc in omega arith)

@@ -50,13 +50,13 @@ Near place r = (place ≤ 1073741824) × (r .peeled ≤ 1073741824)
 -- "Beside the number, check and merge give the item's place in the lent file for 4 and 6, ..", where document 02 has 41 to 45 for 4
 abbrev pub refusalPlace : Refusal → ℕ
 refusalPlace (BadHeader text) = 0
-refusalPlace (BadRecord f place) = place
+refusalPlace (BadRecord place f) = place
 refusalPlace (Unsorted place) = place
 
 -- ".. and 2 its text; nothing else is given with a refusal."
 abbrev pub refusalText : Refusal → ℕ
 refusalText (BadHeader text) = text
-refusalText (BadRecord f place) = 0
+refusalText (BadRecord place f) = 0
 refusalText (Unsorted place) = 0
 
 abbrev pub refusalTold : Refusal → Numbered

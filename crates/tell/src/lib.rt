@@ -82,7 +82,7 @@ pub fn refusal(why: Refusal) -> Numbered
 {
     match why {
         Refusal::BadHeader(text) => refusal_gives(2, 0, text),
-        Refusal::BadRecord { fault, place } => refusal_gives(fault_number(fault), place, 0),
+        Refusal::BadRecord { place, fault } => refusal_gives(fault_number(fault), place, 0),
         Refusal::Unsorted(place) => refusal_gives(6, place, 0),
     }
 }

@@ -120,13 +120,18 @@ enum-known-why c = search needs
 first-named-requires : tie.Need-first-named-requires Inv-loop μ-loop
 first-named-requires c κs = search needs
 
+refused-requires : tie.Need-refused-requires Inv-loop μ-loop
+refused-requires c κs = search needs
+
 tell-requires : tie.Need-tell-requires Inv-loop μ-loop
 tell-requires c κs = search needs
 
 returns-2 : tie.Need-returns-2 Inv-loop μ-loop
 returns-2 c =
-    let w = c .before .before .before in
-    c .tell .ensures ∙ stopped (w .before .before) _ (w .why .given .1) _ (c .before .first-named .ensures)
+    let w = c .before .before .before .before in
+    c .tell .ensures
+    ∙ ap (toldOf (c .before .before .first-named .result)) (c .before .refused .ensures)
+    ∙ stopped (w .before .before) _ (w .why .given .1) _ (c .before .before .first-named .ensures)
 
 enum-known-found : tie.Need-enum-known-found Inv-loop μ-loop
 enum-known-found c = search needs
@@ -191,6 +196,7 @@ ask-body-spec =
     returns
     enum-known-why
     first-named-requires
+    refused-requires
     tell-requires
     returns-2
     enum-known-found

@@ -61,8 +61,11 @@ returns c = whole (c .before .before) _ (c .enum-told .given .1)
 enum-known-why : tie.Need-enum-known-why Inv-loop μ-loop
 enum-known-why c = search needs
 
+refused-requires : tie.Need-refused-requires Inv-loop μ-loop
+refused-requires c κs = search needs
+
 returns-2 : tie.Need-returns-2 Inv-loop μ-loop
-returns-2 c = whole (c .before .before .before) _ (c .before .why .given .1)
+returns-2 c = let w = c .before .before in c .refused .ensures ∙ whole (w .before .before) _ (w .why .given .1)
 
 enum-known-found : tie.Need-enum-known-found Inv-loop μ-loop
 enum-known-found c = search needs
@@ -117,6 +120,7 @@ check-from-spec =
     enum-told
     returns
     enum-known-why
+    refused-requires
     returns-2
     enum-known-found
     sub-name-of
