@@ -1,6 +1,6 @@
 """Documents 01 and 02 as a program, for what the Rust can't be asked: which part of a record is bad (document 02's request Six; the Rust has one error for
 all five), and what the port adds: the check, `ask`, edit lists as bytes, 7 to 12, the index. Written from the documents' sentences, the name rules with
-request Four, and `ask` from the comments of include/packed_refs.h. Nothing is taken over from the library. Answers have the one-line form."""
+request Four, and `ask` from what was settled with request Six. Nothing is taken over from the library. Answers have the one-line form."""
 DIGITS = {1: 40, 2: 64}
 LIMIT = 4096
 # Why a record is bad: its first id, no space, its line not ended properly, its name, its `^` line.
@@ -137,13 +137,6 @@ def answered(b, items, name):
         if i[0] == "r" and b[i[2]:i[2] + i[3]] == name:
             return f"0 {i[1]} {i[2]} {i[3]} {i[4]} {number}"
     return "5" if number == "0" else said
-
-
-def ask(kind, b, name):
-    if not valid(name):
-        return "3"
-    f = file_items(b, kind)
-    return f"2 {f}" if isinstance(f, int) else answered(b, f[2], name)
 
 
 # ---- Edits and merge

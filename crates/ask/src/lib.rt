@@ -121,17 +121,17 @@ pub(crate) fn first_named(t: &[u8; 256], n: usize, file: &[u8], from: usize, nam
     Sought::Nowhere
 }
 
-// A record that was found, with the verdict on the file; or else the verdict.
-fn tell(sought: Sought, verdict: Verdict) -> Told
-    ensures { λ r. ⌜ r ≡ toldOf sought verdict ⌝ }
+// A record that was found, with the verdict on the whole file; or else the verdict.
+fn tell(sought: Sought, whole: Verdict) -> Told
+    ensures { λ r. ⌜ r ≡ toldOf sought whole ⌝ }
 {
     match sought {
         Sought::At { place, found } => Told::Charted {
             place,
             found,
-            verdict,
+            verdict: whole,
         },
-        Sought::Nowhere => match verdict {
+        Sought::Nowhere => match whole {
             Verdict::Clean(_) => Told::Absent,
             Verdict::Refused(why) => Told::Refused(why),
         },

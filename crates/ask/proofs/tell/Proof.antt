@@ -12,8 +12,8 @@ enum-told c = search needs
 enum-told-2 : tie.Need-enum-told-2
 enum-told-2 c = search needs
 
-enum-known-verdict : tie.Need-enum-known-verdict
-enum-known-verdict c = search needs
+enum-known-whole : tie.Need-enum-known-whole
+enum-known-whole c = search needs
 
 returns : tie.Need-returns
 returns c = rw (c .before .sought .given .1)
@@ -22,7 +22,7 @@ returns-2 : tie.Need-returns-2
 returns-2 c = search needs
 
 returns-3 : tie.Need-returns-3
-returns-3 c = rw (c .before .before .before .enum-told .given .1, c .before .verdict .given .1)
+returns-3 c = rw (c .before .before .before .enum-told .given .1, c .before .whole .given .1)
 
 pub tell-spec : {M : Type 1} → statement M
 tell-spec =
@@ -31,7 +31,7 @@ tell-spec =
     enum-known-sought
     enum-told
     enum-told-2
-    enum-known-verdict
+    enum-known-whole
     returns
     returns-2
     returns-3)
