@@ -14,7 +14,7 @@ SHAPES = {
 SIZES = [1, 4, 16, 64]
 # Our operation, the Rust's, what it is, whether it goes through the whole file.
 ROWS = [
-    ("iterate", "iterate", "iteration", True), ("check", "iterate", "check (the Rust: its iteration)", True), ("ask-absent", "iterate", "ask, absent (the Rust: its iteration)", True),
+    ("iterate", "iterate", "iteration", True), ("check", "iterate", "check (the Rust: its iteration)", True), ("ask-charted", "iterate", "ask, charted (the Rust: its iteration)", True), ("ask-absent", "iterate", "ask, absent (the Rust: its iteration)", True),
     ("lookup-present", "lookup-present", "lookup, present", False), ("lookup-absent", "lookup-absent", "lookup, absent", False), ("prefix", "prefix", "prefix listing, 110 records", False),
     ("merge-100", "merge-100", "merge of 100 edits", True), ("merge-4000", "merge-4000", "merge of 4,000 edits", True),
 ]
