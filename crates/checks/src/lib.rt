@@ -54,8 +54,8 @@ pub fn check_using(t: &[u8; 256], n: usize, file: &[u8]) -> Verdict
     }
 }
 
-// The check from a place on, in one pass: only the name before is looked at again. So many records stood before the place, and the last of them has the
-// name last, which is empty before the first.
+// The check from a place on, in one pass: only the name before is looked at again. So many records have passed before the place, and the last of them has
+// that name, which is empty before the first.
 pub fn check_from<'t, 'a>(
     t: &'t [u8; 256],
     n: usize,
