@@ -1,6 +1,7 @@
 //! gix FILE PREFIX RUNS: how fast the Rust (gix-ref 0.67.1) is on a file as the oracle's bench/gen.py makes them: `KEY SECONDS` lines, the least of RUNS
 //! runs in processor time of this thread. The same work as benchmark/ours.c's, in the same order and with the same random numbers. `./bench` builds it in a
 //! copy of the oracle, in the place of its own src/bench.rs.
+//! gix walk FILE RUNS: its iteration through a file of good lines or of bad ones, with the sums of what its errors tell.
 use gix_object::bstr::{BString, ByteSlice};
 use gix_ref::{
     FullName, FullNameRef, Target,
@@ -55,9 +56,40 @@ fn iterate(file: &[u8]) -> usize {
     sum
 }
 
+/// Records, errors, and the sums of the errors' numbers and of their texts' lengths.
+fn walk(file: &[u8]) -> [usize; 4] {
+    let [mut records, mut errors, mut numbers, mut texts] = [0; 4];
+    for r in packed::Iter::new(black_box(file), KIND).expect("header") {
+        match r {
+            Ok(r) => {
+                black_box(&r);
+                records += 1;
+            }
+            Err(packed::iter::Error::Reference { invalid_line, line_number }) => {
+                errors += 1;
+                numbers += line_number;
+                texts += invalid_line.len();
+            }
+            Err(packed::iter::Error::Header { .. }) => unreachable!("only at the start"),
+        }
+    }
+    [records, errors, numbers, texts]
+}
+
+fn run_walk(path: &str, runs: usize) {
+    let file = std::fs::read(path).expect("readable file");
+    let mut met = [0; 4];
+    say("walk", best(runs, || met = walk(&file)));
+    let [records, errors, numbers, texts] = met;
+    println!("records {records}\nerrors {errors}\nsum-lines {numbers}\nsum-texts {texts}");
+}
+
 fn main() {
     let words: Vec<String> = std::env::args().collect();
     let [_, path, prefix, runs] = &words[..] else { panic!("usage: gix FILE PREFIX RUNS") };
+    if path == "walk" {
+        return run_walk(prefix, runs.parse().expect("a number"));
+    }
     let runs: usize = runs.parse().expect("a number");
     let file = std::fs::read(path).expect("readable file");
     let names: Vec<BString> =

@@ -1,6 +1,7 @@
 /* ours FILE PREFIX RUNS: how fast the library is on a file as the oracle's bench/gen.py makes them: `KEY SECONDS` lines, the least of RUNS runs in processor
  * time of this thread, as the machine may be shared. benchmark/gix.rs does the same work with the Rust, in the same order and with the same random numbers.
- * ours hostile SHAPE BYTES RUNS: the same on a file that is made to be slow. */
+ * ours hostile SHAPE BYTES RUNS: the same on a file that is made to be slow.
+ * ours walk FILE RUNS: the walk through a file of good lines or of bad ones, with the sums of what its errors tell, and a plain step to its last line. */
 #define _GNU_SOURCE
 #include <stdio.h>
 #include <stdlib.h>
@@ -62,16 +63,49 @@ static void scan(void) {
 static void iterate(void) {
     struct packed_refs_start_reply s = packed_refs_start(KIND, file.at, file.len);
     size_t place = s.place, sum = 0;
-    uint64_t item = s.item;
+    uint64_t line = s.line;
     for (;;) {
-        struct packed_refs_step_reply r = packed_refs_step(KIND, file.at, file.len, place, item);
+        struct packed_refs_step_reply r = packed_refs_walk(KIND, file.at, file.len, place, line);
         if (r.what == 0)
             break;
         sum += r.name_len + (r.peeled_at ? 2 * DIGITS : DIGITS);
         place = r.next;
-        item = r.item;
+        line = r.next_line;
     }
     kept = sum;
+}
+
+/* What a walk met: records, errors, and the sums of the errors' lines and of their texts' lengths. */
+static struct {
+    size_t records, errors, texts;
+    uint64_t lines;
+} met;
+
+static void walk(void) {
+    struct packed_refs_start_reply s = packed_refs_start(KIND, file.at, file.len);
+    size_t place = s.place;
+    uint64_t line = s.line;
+    memset(&met, 0, sizeof met);
+    for (;;) {
+        struct packed_refs_step_reply r = packed_refs_walk(KIND, file.at, file.len, place, line);
+        if (r.what == 0)
+            break;
+        if (r.what == 1) {
+            met.records++;
+        } else {
+            met.errors++;
+            met.lines += r.line;
+            met.texts += r.text_len;
+        }
+        place = r.next;
+        line = r.next_line;
+    }
+}
+
+/* Where the last line starts, and the line that a plain step tells there. */
+static size_t last_line;
+static void step_last(void) {
+    kept = (size_t)packed_refs_step(KIND, file.at, file.len, last_line).line;
 }
 
 static void check(void) {
@@ -102,14 +136,12 @@ static size_t listed;
 static void list(void) {
     struct packed_refs_prefix_reply s = packed_refs_prefix(KIND, body.at, body.len, prefix.at, prefix.len);
     size_t place = s.place, n = 0;
-    uint64_t item = s.item;
     for (;;) {
-        struct packed_refs_step_reply r = packed_refs_step_prefix(KIND, body.at, body.len, prefix.at, prefix.len, place, item);
+        struct packed_refs_step_reply r = packed_refs_step_prefix(KIND, body.at, body.len, prefix.at, prefix.len, place);
         if (r.what == 0)
             break;
         n++;
         place = r.next;
-        item = r.item;
     }
     listed = n;
 }
@@ -258,7 +290,23 @@ static void run_hostile(const char *shape, size_t n, size_t runs) {
     say("prefix", best(runs, list));
 }
 
+static void run_walk(const char *path, size_t runs) {
+    file = read_file(path);
+    if (file.len < 2)
+        die("a file without lines");
+    say("walk", best(runs, walk));
+    printf("records %zu\nerrors %zu\nsum-lines %llu\nsum-texts %zu\n", met.records, met.errors, (unsigned long long)met.lines, met.texts);
+    for (last_line = file.len - 1; last_line > 0 && file.at[last_line - 1] != '\n';)
+        last_line--;
+    say("step-last", best(runs, step_last));
+    printf("line-last %zu\n", kept);
+}
+
 int main(int argc, char **argv) {
+    if (argc == 4 && strcmp(argv[1], "walk") == 0) {
+        run_walk(argv[2], (size_t)atoll(argv[3]));
+        return 0;
+    }
     if (argc == 5 && strcmp(argv[1], "hostile") == 0) {
         run_hostile(argv[2], (size_t)atoll(argv[3]), (size_t)atoll(argv[4]));
         return 0;
@@ -276,7 +324,7 @@ int main(int argc, char **argv) {
     body = (struct bytes){file.at + place, file.len - place};
     names = room(count * sizeof *names);
     for (size_t i = 0; i < count; i++) {
-        struct packed_refs_step_reply r = packed_refs_step(KIND, file.at, file.len, place, 1);
+        struct packed_refs_step_reply r = packed_refs_step(KIND, file.at, file.len, place);
         names[i] = (struct bytes){file.at + r.name_at, r.name_len};
         place = r.next;
     }

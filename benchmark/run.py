@@ -1,7 +1,7 @@
 #!/usr/bin/env python3
-"""run.py [ROUNDS]: the measurements of ./bench. OURS, GIX: the two programs; BENCH_DATA: the files packed-COUNT."""
+"""run.py [ROUNDS]: the measurements of ./bench. OURS, GIX: the two programs; PROGRAM: packed-refs; BENCH_DATA: the files packed-COUNT."""
 import bisect, datetime, json, os, platform, subprocess, sys
-import plot
+import bad_lines, plot
 
 HERE = os.path.dirname(os.path.abspath(__file__))
 DATA = os.environ["BENCH_DATA"]
@@ -84,6 +84,7 @@ def machine():
 def main():
     results = {n: measure(n) for n in COUNTS}
     bad = hostile()
+    report_to_check, of_bad_lines = bad_lines.measure(ROUNDS)
     ours, gix = results[1000000][:2]
     lines = [
         "# Benchmarks", "",
@@ -91,7 +92,7 @@ def main():
         "Ours is `libhost.a` called from C (`benchmark/ours.c`); the Rust is gix-ref 0.67.1, release build (`benchmark/gix.rs` in the oracle). Both do the same work on the same bytes, files as the oracle's",
         f"`bench/gen.py` makes them (70 bytes a record, every tenth peeled); the two take turns for {ROUNDS} rounds, and a figure is the least of all runs in processor time. Both sides' new files",
         "are held to be the same bytes. A ratio is the Rust's time over ours, in brackets its least and greatest value in one round. The machine is shared: believe the ratios, not the times.",
-        "Each of our lookups, listings and steps is a call from C that makes the byte table anew; the Rust's are inlined.", "",
+        "Each of our lookups, listings and steps is a call from C that makes the byte table anew; the Rust's are inlined. Our iteration walks: it hands the line number on.", "",
         "![Ratios at three sizes, and the time of hostile files against their size](benchmarks.svg)", "",
         "## Goals, at 1,000,000 records", "", "| goal | measured | |", "|---|---|---|",
     ]
@@ -101,6 +102,7 @@ def main():
         ("lookup, absent, at least 1.5 times as fast", 1.5, gix["lookup-absent"] / ours["lookup-absent"], True),
         ("merge of 4,000 edits at least 3 times as fast", 3, gix["merge-4000"] / ours["merge-4000"], True),
         ("merge of 4,000 edits at most 1.5 times our check", 1.5, ours["merge-4000"] / ours["check"], False),
+        ("`report` of 1,000,000 bad lines at most 3 times `check` of as many good ones, as runs of the program", 3, report_to_check, False),
     ]:
         met = got >= want if at_least else got <= want
         by = "met" if met else f"**missed by {abs(got / want - 1) * 100:.0f} %**"
@@ -114,12 +116,13 @@ def main():
                 lines.append(f"| {what} | {per(o[a])} | {per(g[b])} | {g[b] / o[a]:.2f} ({spread(os_, gs, a, b)}) |")
         lines.append(f"| limit: memchr for each LF | {time_text(o['scan'])}, {o['scan'] * 1e9 / n:.0f} ns a record | {time_text(g['scan'])}, {g['scan'] * 1e9 / n:.0f} ns a record | |")
     lines += ["", "## Hostile files", "",
-              "Nanoseconds a byte at 1, 4, 16 and 64 MB: the same number means that the cost grows as the size does. The check stops at the first bad item. A lookup and a listing search first and read the",
+              "Nanoseconds a byte at 1, 4, 16 and 64 MB: the same number means that the cost grows as the size does. The check stops at the first bad item, whose line it reads to the end to tell its text. A lookup and a listing search first and read the",
               "line that a probe lies in, so in a file of one line they read it once a probe, and the number of probes grows with the logarithm of the size (at most 31).",
               "", "| file | iteration | check | ask | lookup | prefix listing |", "|---|---|---|---|---|---|"]
     for shape, what in SHAPES.items():
         cell = lambda k: ", ".join(f"{bad[shape, mb][k] * 1000 / mb:.2g}" for mb in SIZES) if bad[shape, SIZES[-1]][k] > 1e-4 else f"stops at once ({time_text(bad[shape, SIZES[-1]][k])} at {SIZES[-1]} MB)"
         lines.append(f"| {what} | " + " | ".join(cell(k) for k in ("iterate", "check", "ask", "lookup", "prefix")) + " |")
+    lines += ["", "## Bad lines", ""] + of_bad_lines
     notes = os.path.join(HERE, "notes.md")
     if os.path.exists(notes):
         lines += ["", open(notes).read().rstrip()]

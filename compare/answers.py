@@ -2,9 +2,10 @@
 domain that both sides share. A question is (operation, kind, lent bytes and numbers ..); a merge's edits are a list of tuples.
 
 The Rust has one error for all bad records. So it judges where a record is bad and what the error covers, the model has to say the same, and which part is
-bad (41 to 45) is the model's word."""
-import re
-from model import BAD, DIGITS, answered, covered, first_fault, record, spelled
+bad (41 to 45) is the model's word. The Rust numbers items, and cuts its texts: line and text are the model's word too, and what the Rust has to say of such an
+error is worked out from them (`as_the_rust`) and held to what it says."""
+import itertools, re
+from model import BAD, DIGITS, LF, answered, first_fault, item, line_of, record, spelled, spelled_prefix, spelled_step, spelled_walk
 
 
 def hexed(b):
@@ -46,6 +47,9 @@ def asked(q):
         return [{"op": "name", "name": b}]
     if op in "ic":
         return [{"op": "iter", "bytes": b, "kind": kind}]
+    if op in "tw":
+        # The Rust has no step from a place. The line feed is an error of its own, so that what stands there is not taken for a header.
+        return [{"op": "iter", "bytes": (LF + rest[0][rest[1]:]).hex(), "kind": kind}]
     if op == "s":
         # Beyond the end the Rust panics, and document 01 takes the end.
         return [{"op": "record_start", "bytes": b, "at": min(rest[1], len(rest[0]))}]
@@ -96,21 +100,39 @@ def why_bad(b, kind, at):
     return why
 
 
+def as_the_rust(b, error, uncounted):
+    """What the Rust says of an error of ours. Its number is the line less the lines that it doesn't count. Its text lacks the last of the bytes that the error
+    covers: the LF, or in a last line that is not ended a byte of the line itself."""
+    _, at, _, line, length, end = error
+    text = b[at:at + length]
+    return {"err": line - uncounted, "line": (text if at + length < end else text[:-1]).hex()}
+
+
 def items_of(b, kind, place, number, items):
-    """The Rust's items in the form of the model's; each begins where the one before ends."""
+    """The Rust's items in the form of the model's; each begins where the one before ends. The Rust counts items, from that number on: it does not count the
+    lines before, nor a record's `^` line."""
+    uncounted = line_of(b, place) - number
     out = []
     for i in items:
         if "err" in i:
-            end = covered(b, place)
-            need(i["err"] == number and b[place:end - 1].hex() == i["line"], "an error's number or text")
-            out.append(("e", place, why_bad(b, kind, place), number, end - 1 - place, end))
+            why_bad(b, kind, place)
+            out.append(item(b, kind, place))
+            need(i == as_the_rust(b, out[-1], uncounted), "an error's number or text")
         else:
             r = record_at(b, kind, place, i)
             need(record(b, kind, place) == r[1:], "a record of the Rust that the model reads otherwise")
             out.append(("r",) + r)
+            uncounted += i["peeled"] is not None
         place = out[-1][-1]
-        number += 1
     return out
+
+
+def item_at(b, kind, place, items):
+    """What the Rust's iteration gives first from a place on, behind the line feed that was put before; None at an end."""
+    need(items[0] == {"err": 1, "line": ""}, "the line feed before a place")
+    first = [dict(i, at=i["at"] - 1 + place) if "at" in i else i for i in items[1:2]]
+    need(bool(first) == (place < len(b)), "an item or none")
+    return items_of(b, kind, place, 2, first)[0] if first else None
 
 
 def behind_header(b, at=0):
@@ -122,20 +144,24 @@ def first_line(b, line, at=0):
     return len(line) // 2
 
 
+def first_number(place, start=0):
+    """The Rust's number of the first item: a header is an item too."""
+    return 1 if place == start else 2
+
+
 def file_items(b, kind, a):
-    """(place, number, items) of a whole file, or the length of number 2's text."""
+    """(place, items) of a whole file, or the length of number 2's text."""
     if a["r"] == "header":
         return first_line(b, a["line"])
     place = behind_header(b)
-    number = 2 if place else 1
-    out = items_of(b, kind, place, number, a["items"])
+    out = items_of(b, kind, place, first_number(place), a["items"])
     need((out[-1][-1] if out else place) == len(b), "bytes behind the last item")
-    return place, number, out
+    return place, out
 
 
 def check(b, kind, a):
     f = file_items(b, kind, a)
-    return f"2 {f}" if isinstance(f, int) else first_fault(b, f[2])
+    return f"2 {f}" if isinstance(f, int) else first_fault(b, f[1])
 
 
 def index_text(edits):
@@ -159,6 +185,9 @@ def expected(q, answers):
     if op == "i":
         f = file_items(b, kind, a)
         return f"2 {f}" if isinstance(f, int) else spelled(b, *f)
+    if op in "tw":
+        first = item_at(b, kind, rest[1], a["items"])
+        return spelled_step(b, first) if op == "t" else spelled_walk(b, first, rest[2])
     if op == "s":
         return str(a["at"])
     if op == "c":
@@ -177,8 +206,7 @@ def expected(q, answers):
         if a["r"] == "header":
             return f"2 {at} {first_line(b, a['line'], at)}"
         place = behind_header(b, at)
-        number = 1 if place == at else 2
-        return spelled(b, place, number, items_of(b, kind, place, number, a["items"]))
+        return spelled_prefix(b, place, items_of(b, kind, place, first_number(place, at), a["items"]))
     if op == "m":
         if a["r"] == "name":
             return f"8 {edit_places(rest[1])[a['edit']]} x"
@@ -186,11 +214,12 @@ def expected(q, answers):
         if a["r"] == "open_header":
             return check(b, kind, answers[1]) + ix
         if a["r"] in ("iteration", "open_iter"):
-            # The number counts items, from 1 behind the header; a file that is sorted on opening is told its item's number or its line in another form.
-            said = check(b, kind, answers[1])
-            bad = [i for i in file_items(b, kind, answers[1])[2] if i[0] == "e"][0]
-            need(a["error"]["line"] == b[bad[1]:bad[1] + bad[4]].hex(), "the line of a merge's error")
-            return said + ix
+            # Here the Rust counts from 1 behind the header.
+            place, items = file_items(b, kind, answers[1])
+            before = list(itertools.takewhile(lambda i: i[0] == "r", items))
+            error = as_the_rust(b, items[len(before)], (place > 0) + sum(i[4] > 0 for i in before))
+            need(a["error"] == {"r": "reference", "number": error["err"], "line": error["line"]}, "a merge's error")
+            return first_fault(b, items) + ix
         if a["r"] == "written":
             return f"0 {len(a['bytes']) // 2} {a['bytes']}" + ix
         need(a["r"] in ("nothing", "removed"), a["r"])
@@ -209,7 +238,7 @@ def expected(q, answers):
         if not answers[1]["valid"]:
             return "3"
         f = file_items(b, kind, a)
-        return f"2 {f}" if isinstance(f, int) else answered(b, f[2], rest[1])
+        return f"2 {f}" if isinstance(f, int) else answered(b, f[1], rest[1])
     raise ValueError(op)
 
 
@@ -275,7 +304,8 @@ def outside(q, answers):
         return odd_name(m.group(1)) if m else None
     if op in "hs":
         return None
-    why = odd_file(b, kind)
+    # A record may begin at the place of a step, inside a line.
+    why = odd_file(b[rest[1]:] if op in "tw" else b, kind)
     if why:
         return why
     if op in "fa" and odd_name(rest[1]):

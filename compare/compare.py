@@ -10,7 +10,8 @@ BATCH = 20000
 # What, every short input, random inputs.
 OPERATIONS = [
     ("header", inputs.short_headers(), inputs.headers), ("name", inputs.short_names(), inputs.names),
-    ("iteration", inputs.short_files("i"), inputs.files("i")), ("check", inputs.short_files("c"), inputs.files("c")),
+    ("iteration", inputs.short_files("i"), inputs.files("i")), ("step at a place", inputs.short_steps("t"), inputs.steps("t")),
+    ("walk from a line", inputs.short_steps("w"), inputs.steps("w")), ("check", inputs.short_files("c"), inputs.files("c")),
     ("record start", inputs.short_starts(), inputs.starts), ("lookup", inputs.short_sought("f"), inputs.sought("f")),
     ("prefix listing", inputs.short_sought("p"), inputs.sought("p")), ("merge", inputs.short_merges(), inputs.merges),
     ("loose", inputs.short_contents(), inputs.contents), ("ask", inputs.short_sought("a"), inputs.asks),
@@ -55,9 +56,21 @@ def tell(q, theirs, mine, raw=None):
 def told_beside(op, answer):
     """The numbers that an answer tells beside its own: why each error of an iteration is one, and what fault a file has in which `ask` finds a record."""
     parts = answer.split(" ")
-    if op in "ip":
+    if op in "iptw":
         return [parts[i + 2] for i, part in enumerate(parts[:-2]) if part == "e"]
     return parts[-1:] if op == "a" and parts[0] == "0" else []
+
+
+def said_otherwise(answer, said):
+    """Of the errors of an iteration on which both agree: where the Rust's number is not the line, and where its text lacks a byte of the line."""
+    parts = answer.split(" ")
+    ours = [parts[i + 3:i + 5] for i, part in enumerate(parts) if part == "e"]
+    theirs = [(i["err"], len(i["line"]) // 2) for i in said.get("items", []) if "err" in i]
+    for (line, length), (number, text) in zip(ours, theirs):
+        if int(line) != number:
+            yield "number"
+        if int(length) != text:
+            yield "text"
 
 
 def counted(numbers):
@@ -67,7 +80,7 @@ def counted(numbers):
 class Tally:
     def __init__(self):
         self.n, self.wrong, self.least = 0, 0, None
-        self.numbers, self.beside = collections.Counter(), collections.Counter()
+        self.numbers, self.beside, self.otherwise = collections.Counter(), collections.Counter(), collections.Counter()
         # Of each rule: inputs left out, how many of them differ, the smallest that does.
         self.left = {}
 
@@ -79,6 +92,8 @@ class Tally:
             self.wrong += 1
             if self.least is None or size(q) < size(self.least[0]):
                 self.least = q, theirs, mine, raw
+        elif q[0] == "i":
+            self.otherwise.update(said_otherwise(mine, raw[0]))
 
     def leave(self, why, q, theirs, mine):
         n, differ, least = self.left.get(why, (0, 0, None))
@@ -93,6 +108,8 @@ class Tally:
         print(f"{what}: {self.n} compared, {self.wrong} differ\n   answers by number: {counted(self.numbers)}")
         if self.beside:
             print(f"   {'faults beside 0' if what == 'ask' else 'errors by reason'}: {counted(self.beside)}")
+        if self.otherwise:
+            print(f"   errors whose number in the Rust is not their line: {self.otherwise['number']}; whose text there lacks a byte: {self.otherwise['text']}")
         for why, (n, differ, least) in sorted(self.left.items(), key=lambda x: -x[1][0]):
             print(f"   outside the shared domain: {n}, of them {differ} differ: {why}")
             if least and "SHOW" in os.environ:

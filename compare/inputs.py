@@ -2,7 +2,7 @@
 others yield random ones without an end."""
 import itertools
 from answers import DIGITS, edit_bytes
-from model import BAD, valid
+from model import BAD, LAST_LINE, valid
 
 PRE = b"# pack-refs with: "
 HEX = b"0123456789abcdefABCDEF"
@@ -273,6 +273,41 @@ def files(op):
         while True:
             kind = m.kind()
             yield op, kind, m.file(kind)
+    return make
+
+
+def any_line(m):
+    """A line number for a walk: any will do, not the true one alone."""
+    return m.one_of(0, 1, 2, 7, 2 ** 32, 2 ** 63, LAST_LINE - 2, LAST_LINE - 1, LAST_LINE, m.r.randrange(LAST_LINE))
+
+
+def short_steps(op):
+    """Every place of short files and of every line of a few longer ones. A walk's line numbers are the least and the greatest."""
+    files = [(1, b) for b in words([b"x", b"\n", b"\r", b"^", b"#"], 4)]
+    for kind in (1, 2):
+        one, two = (c * DIGITS[kind] for c in (b"1", b"2"))
+        lines = [one + b" a/a\n", b"^" + two + b"\r\n", b"x\n", one + b" a/b"]
+        files += [(kind, b) for b in words(lines, 3, 1)]
+    for kind, b in files:
+        for at in range(len(b) + 2):
+            yield from ((op, kind, b, at, line) for line in (0, LAST_LINE - 1, LAST_LINE)) if op == "w" else [(op, kind, b, at)]
+
+
+def steps(op):
+    """A step at any place: where lines start, inside them, at the end and beyond it."""
+    def make(m):
+        rnd = m.r
+        while True:
+            kind = m.kind()
+            b = m.file(kind)
+            k = rnd.random()
+            if k < 0.5:
+                at = rnd.choice([0] + [i + 1 for i, c in enumerate(b) if c == 10])
+            elif k < 0.95:
+                at = rnd.randrange(len(b) + 1)
+            else:
+                at = m.one_of(len(b), len(b) + 1, 2 ** 32, 2 ** 63, 2 ** 64 - 1)
+            yield (op, kind, b, at, any_line(m)) if op == "w" else (op, kind, b, at)
     return make
 
 

@@ -1,8 +1,12 @@
 """Documents 01 and 02 as a program, for what the Rust can't be asked: which part of a record is bad (document 02's request Six; the Rust has one error for
-all five), and what the port adds: the check, `ask`, edit lists as bytes, 7 to 12, the index. Written from the documents' sentences, the name rules with
-request Four, and `ask` from what was settled with request Six. Nothing is taken over from the library. Answers have the one-line form."""
+all five), on which line and what the whole line is (request One; the Rust counts items and cuts a byte), and what the port adds: the check, `ask`, edit lists
+as bytes, 7 to 12, the index. Written from the documents' sentences, the name rules with request Four, and `ask` from what was settled with request Six.
+Nothing is taken over from the library. Answers have the one-line form."""
+LF = b"\n"
 DIGITS = {1: 40, 2: 64}
 LIMIT = 4096
+# The largest line number. It stays.
+LAST_LINE = 2 ** 64 - 1
 # Why a record is bad: its first id, no space, its line not ended properly, its name, its `^` line.
 BAD = (41, 42, 43, 44, 45)
 
@@ -61,7 +65,7 @@ def behind_header(b):
     """(the place behind the header, None), 0 without one; or (None, the length of number 2's text)."""
     if b[:1] != b"#":
         return 0, None
-    lf = b.find(b"\n")
+    lf = b.find(LF)
     line = b if lf < 0 else b[:lf].removesuffix(b"\r")
     if not b.startswith(b"# pack-refs with: ") or lf < 0 or b"\r" in line:
         return None, len(line)
@@ -70,52 +74,92 @@ def behind_header(b):
 
 def covered(b, at):
     """Where an error that begins at a place ends: it covers through the next LF, or the rest if none."""
-    lf = b.find(b"\n", at)
+    lf = b.find(LF, at)
     return len(b) if lf < 0 else lf + 1
+
+
+def line_of(b, place):
+    """The true line number of a place: one more than the line feeds before it."""
+    return 1 + b[:place].count(LF)
+
+
+def whole_line(b, at):
+    """The whole line, from that place on, without its ending LF: its length."""
+    return len(b[at:].partition(LF)[0])
 
 
 # ---- Whole files
 
-def items_from(b, kind, at, number):
-    """('r', start, place and length of the name, place of the peeled id or 0, next place) or ('e', start, why, item number, length of the text, next
-    place) of each item. An error's text is the covered bytes less the last one."""
+def item(b, kind, at):
+    """('r', start, place and length of the name, place of the peeled id or 0, next place) or ('e', start, why, line, length of the text, next place) of the
+    item at a place."""
+    r = record(b, kind, at)
+    return ("e", at, r, line_of(b, at), whole_line(b, at), covered(b, at)) if r in BAD else ("r", at) + r
+
+
+def items_from(b, kind, at):
     out = []
     while at < len(b):
-        r = record(b, kind, at)
-        if r in BAD:
-            end = covered(b, at)
-            out.append(("e", at, r, number, end - 1 - at, end))
-        else:
-            out.append(("r", at) + r)
+        out.append(item(b, kind, at))
         at = out[-1][-1]
-        number += 1
     return out
 
 
 def file_items(b, kind):
-    """(place, number, items) of a whole file, whose item numbers begin behind the header; or the length of number 2's text."""
+    """(place, items) of a whole file; or the length of number 2's text."""
     at, text = behind_header(b)
-    if at is None:
-        return text
-    number = 2 if at else 1
-    return at, number, items_from(b, kind, at, number)
+    return text if at is None else (at, items_from(b, kind, at))
 
 
-def spelled(b, place, number, items):
-    return f"0 {place} {number}" + "".join(" " + " ".join(map(str, i)) for i in items) + f" . {len(b)} {number + len(items)}"
+def words(item):
+    return "".join(f" {x}" for x in item)
 
 
-def iteration(kind, b):
+def on_line(item, line):
+    """The item, an error with another line number."""
+    return item[:3] + (line,) + item[4:] if item[0] == "e" else item
+
+
+def spelled(b, place, items):
+    """The iteration of a whole file."""
+    return f"0 {place} {line_of(b, place)}" + "".join(map(words, items)) + f" . {len(b)} {line_of(b, len(b))}"
+
+
+def spelled_prefix(b, place, items):
+    """A listing with a prefix. It starts in the middle, so its line numbers are 0."""
+    return f"0 {place}" + "".join(words(on_line(i, 0)) for i in items) + f" . {len(b)}"
+
+
+def spelled_lines(b, place, items):
+    """The items of a whole file, also its records, each behind the line that it starts on; then the line behind them."""
+    return "0" + "".join(f" {line_of(b, i[1])}{words(i)}" for i in items) + f" {line_of(b, len(b))} ."
+
+
+def spelled_step(b, item):
+    """The item at any place, or None at an end."""
+    return "0" + words(item or (".", len(b)))
+
+
+def spelled_walk(b, item, line):
+    """A step that is given its line number: an error's is that one, and the next one is greater by the item's line feeds."""
+    if item is None:
+        return f"0 . {len(b)} {line}"
+    return "0" + words(on_line(item, line)) + f" {min(line + b[item[1]:item[-1]].count(LF), LAST_LINE)}"
+
+
+def iteration(kind, b, spell=spelled):
     f = file_items(b, kind)
-    return f"2 {f}" if isinstance(f, int) else spelled(b, *f)
+    return f"2 {f}" if isinstance(f, int) else spell(b, *f)
 
 
 def first_fault(b, items):
-    """What the check says of a file's items: the first error, or the first record whose name isn't greater than the one before; else the count."""
+    """What the check says of a file's items: the first error with its place, line and text, or the first record whose name isn't greater than the one before;
+    else the count."""
     last = b""
     for i in items:
         if i[0] == "e":
-            return f"{i[2]} {i[1]}"
+            _, at, why, line, length, _ = i
+            return f"{why} {at} {line} {length}"
         name = b[i[2]:i[2] + i[3]]
         if not last < name:
             return f"6 {i[1]}"
@@ -125,7 +169,7 @@ def first_fault(b, items):
 
 def check(kind, b):
     f = file_items(b, kind)
-    return f"2 {f}" if isinstance(f, int) else first_fault(b, f[2])
+    return f"2 {f}" if isinstance(f, int) else first_fault(b, f[1])
 
 
 def answered(b, items, name):
@@ -176,7 +220,7 @@ def records_of(b, kind):
     """(id, peeled id or None) of each name in a file that passes the check."""
     n = DIGITS[kind]
     return {b[name_at:name_at + length]: (b[at:at + n], b[peeled_at:peeled_at + n] if peeled_at else None)
-            for _, at, name_at, length, peeled_at, _ in file_items(b, kind)[2]}
+            for _, at, name_at, length, peeled_at, _ in file_items(b, kind)[1]}
 
 
 def merge(kind, old, e, index_len, out_len):

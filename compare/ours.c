@@ -77,39 +77,97 @@ static int bad(uint32_t number) {
     return number >= 41 && number <= 45;
 }
 
+/* Whether a line or a text is told beside a number that has none. */
+static int told_more(uint32_t number, uint64_t line_number, size_t text_len) {
+    return !bad(number) && (line_number || (number != 2 && text_len));
+}
+
 /* Ends an answer's line. A field that should be 0 beside the answer's number and isn't must not stay hidden. */
 static void end_of_answer(int gave_more) {
     printf(gave_more ? " gave more\n" : "\n");
 }
 
-static void items(uint32_t kind, struct bytes b, struct bytes prefix, int plain, size_t place, uint64_t item) {
-    printf("0 %zu %" PRIu64, place, item);
+static int of_record(struct packed_refs_step_reply r) {
+    return r.name_at || r.name_len || r.peeled_at;
+}
+
+static int of_error(struct packed_refs_step_reply r) {
+    return r.why || r.line || r.text_len;
+}
+
+/* Whether two steps told the same item but for its line numbers. */
+static int same_item(struct packed_refs_step_reply a, struct packed_refs_step_reply b) {
+    return a.number == b.number && a.what == b.what && a.start == b.start && a.next == b.next && a.name_at == b.name_at && a.name_len == b.name_len &&
+           a.peeled_at == b.peeled_at && a.why == b.why && a.text_len == b.text_len;
+}
+
+/* A record, an error, or an end. */
+static void item(struct packed_refs_step_reply r) {
+    if (r.what == 0)
+        printf(" . %zu", r.next);
+    else if (r.what == 1)
+        printf(" r %zu %zu %zu %zu %zu", r.start, r.name_at, r.name_len, r.peeled_at, r.next);
+    else
+        printf(" e %zu %" PRIu32 " %" PRIu64 " %zu %zu", r.start, r.why, r.line, r.text_len, r.next);
+    if ((r.what != 1 && of_record(r)) || (r.what != 2 && of_error(r)) || (r.what == 0 && r.start))
+        printf(" gave more");
+}
+
+/* Whether to go on from an item: neither refused nor the end, and the next place is a later one. */
+static int goes_on(struct packed_refs_step_reply r, size_t place) {
+    if (r.number != 0) {
+        printf(" refused %u%s", r.number, r.what || r.start || r.next || r.next_line || of_record(r) || of_error(r) ? " gave more" : "");
+        return 0;
+    }
+    if (r.what != 0 && r.next <= place) {
+        printf(" stuck");
+        return 0;
+    }
+    return r.what != 0;
+}
+
+/* The items from a start on, by walking. The plain step tells the same at each place, its line counted in the lent bytes; and so does the step with an empty
+ * prefix, but for the line. With `lines` the line of each item's start stands before it. */
+static void walked(uint32_t kind, struct bytes b, size_t place, uint64_t line_number, int lines) {
     for (;;) {
-        struct packed_refs_step_reply r = plain ? packed_refs_step(kind, b.at, b.len, place, item)
-                                                : packed_refs_step_prefix(kind, b.at, b.len, prefix.at, prefix.len, place, item);
-        int of_record = r.name_at || r.name_len || r.peeled_at, of_error = r.why || r.error || r.text_len;
-        if (r.number != 0) {
-            printf(" refused %u", r.number);
-            end_of_answer(r.what || r.start || r.next || r.item || of_record || of_error);
+        struct packed_refs_step_reply r = packed_refs_walk(kind, b.at, b.len, place, line_number);
+        struct packed_refs_step_reply plain = packed_refs_step(kind, b.at, b.len, place);
+        struct packed_refs_step_reply bare = packed_refs_step_prefix(kind, b.at, b.len, b.at, 0, place);
+        if (lines)
+            printf(" %" PRIu64, line_number);
+        if (!same_item(r, plain) || r.line != plain.line || plain.next_line)
+            printf(" the plain step differs: %" PRIu64 " %zu", plain.line, plain.text_len);
+        if (!same_item(r, bare) || bare.line || bare.next_line)
+            printf(" the step with an empty prefix differs: %" PRIu64 " %zu", bare.line, bare.text_len);
+        if (!goes_on(r, place)) {
+            if (lines)
+                printf(" .");
+            else
+                item(r), printf(" %" PRIu64, r.next_line);
+            end_of_answer(0);
             return;
         }
-        if (r.what == 0) {
-            printf(" . %zu %" PRIu64, r.next, r.item);
-            end_of_answer(r.start || of_record || of_error);
-            return;
-        }
-        if (r.what == 1)
-            printf(" r %zu %zu %zu %zu %zu", r.start, r.name_at, r.name_len, r.peeled_at, r.next);
-        else
-            printf(" e %zu %" PRIu32 " %" PRIu64 " %zu %zu", r.start, r.why, r.error, r.text_len, r.next);
-        if (r.what == 1 ? of_error : of_record)
+        item(r);
+        place = r.next;
+        line_number = r.next_line;
+    }
+}
+
+/* A listing from its start on. At each item's place the plain step tells the same but for the line. */
+static void listed(uint32_t kind, struct bytes b, struct bytes prefix, size_t place) {
+    for (;;) {
+        struct packed_refs_step_reply r = packed_refs_step_prefix(kind, b.at, b.len, prefix.at, prefix.len, place);
+        if (r.what != 0 && !same_item(r, packed_refs_step(kind, b.at, b.len, place)))
+            printf(" the plain step differs");
+        int more = goes_on(r, place);
+        item(r);
+        if (r.next_line)
             printf(" gave more");
-        if (r.next <= place || r.item != item + 1) {
-            printf(" stuck\n");
+        if (!more) {
+            end_of_answer(0);
             return;
         }
         place = r.next;
-        item = r.item;
     }
 }
 
@@ -134,6 +192,8 @@ static void merge(uint32_t kind) {
             printf("%02x", out[i]);
     } else if (r.number == 2) {
         printf("2 %zu", r.text_len);
+    } else if (bad(r.number)) {
+        printf("%u %zu %" PRIu64 " %zu", r.number, r.place, r.line, r.text_len);
     } else if (beside_place) {
         printf("%u %zu", r.number, r.place);
     } else {
@@ -153,7 +213,7 @@ static void merge(uint32_t kind) {
         }
     if (memcmp(old.at, old_kept.at, old.len) || memcmp(edits.at, edits_kept.at, edits.len))
         printf(" wrote input");
-    end_of_answer((r.number != 0 && r.length) || (r.number != 2 && r.text_len) || (!beside_place && r.place));
+    end_of_answer((r.number != 0 && r.length) || told_more(r.number, r.line, r.text_len) || (!beside_place && r.place));
     free(old.at), free(edits.at), free(index), free(out), free(old_kept.at), free(edits_kept.at);
 }
 
@@ -177,15 +237,41 @@ static void answer(char op, uint32_t kind) {
         printf("%u\n", packed_refs_name(b.at, b.len));
         free(b.at);
         return;
-    case 'i': {
+    case 'i':
+    case 'v': {
         b = given();
         struct packed_refs_start_reply r = packed_refs_start(kind, b.at, b.len);
-        if (r.number == 0)
-            items(kind, b, b, 1, r.place, r.item);
-        else if (r.number == 2)
-            printf("2 %zu\n", r.text_len);
-        else
-            printf("%u\n", r.number);
+        if (r.number == 0) {
+            printf("0");
+            if (op == 'i')
+                printf(" %zu %" PRIu64, r.place, r.line);
+            walked(kind, b, r.place, r.line, op == 'v');
+        } else {
+            printf("%u", r.number);
+            if (r.number == 2)
+                printf(" %zu", r.text_len);
+            end_of_answer(r.place || r.line || (r.number != 2 && r.text_len));
+        }
+        free(b.at);
+        return;
+    }
+    case 't': {
+        b = given();
+        struct packed_refs_step_reply r = packed_refs_step(kind, b.at, b.len, number());
+        printf("%u", r.number);
+        item(r);
+        end_of_answer(r.next_line != 0);
+        free(b.at);
+        return;
+    }
+    case 'w': {
+        b = given();
+        size_t place = number();
+        struct packed_refs_step_reply r = packed_refs_walk(kind, b.at, b.len, place, number());
+        printf("%u", r.number);
+        item(r);
+        printf(" %" PRIu64, r.next_line);
+        end_of_answer(!same_item(r, packed_refs_step(kind, b.at, b.len, place)));
         free(b.at);
         return;
     }
@@ -202,53 +288,60 @@ static void answer(char op, uint32_t kind) {
             printf("0 %zu", r.count);
         else if (r.number == 2)
             printf("2 %zu", r.text_len);
+        else if (bad(r.number))
+            printf("%u %zu %" PRIu64 " %zu", r.number, r.place, r.line, r.text_len);
         else if (beside_place)
             printf("%u %zu", r.number, r.place);
         else
             printf("%u", r.number);
-        end_of_answer((r.number != 0 && r.count) || (r.number != 2 && r.text_len) || (!beside_place && r.place));
+        end_of_answer((r.number != 0 && r.count) || told_more(r.number, r.line, r.text_len) || (!beside_place && r.place));
         free(b.at);
         return;
     }
     case 'f': {
         b = given(), name = given();
         struct packed_refs_lookup_reply r = packed_refs_lookup(kind, b.at, b.len, name.at, name.len);
-        int of_record = r.name_at || r.name_len || r.peeled_at;
+        int of_hit = r.name_at || r.name_len || r.peeled_at;
         if (r.number == 0)
             printf("0 %zu %zu %zu %zu", r.place, r.name_at, r.name_len, r.peeled_at);
         else if (bad(r.number))
             printf("%u %zu", r.number, r.place);
         else
             printf("%u", r.number);
-        end_of_answer(r.number != 0 && (of_record || (!bad(r.number) && r.place)));
+        end_of_answer(r.number != 0 && (of_hit || (!bad(r.number) && r.place)));
         free(b.at), free(name.at);
         return;
     }
     case 'a': {
         b = given(), name = given();
         struct packed_refs_ask_reply r = packed_refs_ask(kind, b.at, b.len, name.at, name.len);
-        int beside_place = bad(r.number) || r.number == 6, of_record = r.name_at || r.name_len || r.peeled_at || r.fault;
+        int beside_place = bad(r.number) || r.number == 6, of_hit = r.name_at || r.name_len || r.peeled_at || r.fault;
         if (r.number == 0)
             printf("0 %zu %zu %zu %zu %" PRIu32, r.place, r.name_at, r.name_len, r.peeled_at, r.fault);
         else if (r.number == 2)
             printf("2 %zu", r.text_len);
+        else if (bad(r.number))
+            printf("%u %zu %" PRIu64 " %zu", r.number, r.place, r.line, r.text_len);
         else if (beside_place)
             printf("%u %zu", r.number, r.place);
         else
             printf("%u", r.number);
-        end_of_answer((r.number != 0 && (of_record || (!beside_place && r.place))) || (r.number != 2 && r.text_len));
+        end_of_answer((r.number != 0 && (of_hit || (!beside_place && r.place))) || told_more(r.number, r.line, r.text_len));
         free(b.at), free(name.at);
         return;
     }
     case 'p': {
         b = given(), name = given();
         struct packed_refs_prefix_reply r = packed_refs_prefix(kind, b.at, b.len, name.at, name.len);
-        if (r.number == 0)
-            items(kind, b, name, 0, r.place, r.item);
-        else if (r.number == 2)
-            printf("2 %zu %zu\n", r.text_at, r.text_len);
-        else
-            printf("%u\n", r.number);
+        if (r.number == 0) {
+            printf("0 %zu", r.place);
+            listed(kind, b, name, r.place);
+        } else {
+            printf("%u", r.number);
+            if (r.number == 2)
+                printf(" %zu %zu", r.text_at, r.text_len);
+            end_of_answer(r.place || (r.number != 2 && (r.text_at || r.text_len)));
+        }
         free(b.at), free(name.at);
         return;
     }
@@ -294,8 +387,10 @@ static void limits(void) {
     for (size_t i = 0; i < sizeof kinds / sizeof *kinds; i++) {
         uint32_t k = kinds[i], n = k == 1 || k == 2 ? 17 : 1, none = n == 1 ? 1 : 0;
         want("start", n, packed_refs_start(k, big, most + 1).number);
-        want("step", n, packed_refs_step(k, big, most + 1, 0, 1).number);
-        want("step, large prefix", n, packed_refs_step_prefix(k, small, 3, big, most + 1, 0, 1).number);
+        want("step", n, packed_refs_step(k, big, most + 1, 0).number);
+        want("walk", n, packed_refs_walk(k, big, most + 1, 0, 1).number);
+        want("step with a prefix", n, packed_refs_step_prefix(k, big, most + 1, small, 3, 0).number);
+        want("step, large prefix", n, packed_refs_step_prefix(k, small, 3, big, most + 1, 0).number);
         want("check", n, packed_refs_check(k, big, most + 1).number);
         want("lookup", n, packed_refs_lookup(k, big, most + 1, small, 3).number);
         want("lookup, large name", n, packed_refs_lookup(k, small, 3, big, most + 1).number);
@@ -308,7 +403,9 @@ static void limits(void) {
         want("merge, large output", none ? 1 : 13, packed_refs_merge(k, small, 0, small, 0, index, 1, big, most + 1).number);
         want("loose", n, packed_refs_loose(k, big, most + 1).number);
         want("start, small", none, packed_refs_start(k, small, 0).number);
-        want("step, small", none, packed_refs_step(k, small, 0, UINT64_MAX, UINT64_MAX).number);
+        want("step, small", none, packed_refs_step(k, small, 0, SIZE_MAX).number);
+        want("walk, small", none, packed_refs_walk(k, small, 0, SIZE_MAX, UINT64_MAX).number);
+        want("step with a prefix, small", none, packed_refs_step_prefix(k, small, 0, small, 3, SIZE_MAX).number);
         want("check, small", none, packed_refs_check(k, small, 0).number);
         want("lookup, small", none ? 1 : 5, packed_refs_lookup(k, small, 0, small, 3).number);
         want("prefix, small", none, packed_refs_prefix(k, small, 0, small, 3).number);
@@ -324,10 +421,26 @@ static void limits(void) {
     want("name, at the limit", 3, packed_refs_name(big, most));
     want("start, at the limit", 0, packed_refs_start(1, big, most).number);
     want("loose, at the limit", 15, packed_refs_loose(1, big, most).number);
-    /* The largest item number stays. */
+    /* A refusal has nothing beside its number, whatever line was given. */
+    struct packed_refs_step_reply r;
+    for (uint32_t k = 0; k < 2; k++) {
+        r = packed_refs_walk(k, big, most + 1, 0, 7);
+        want("walk, nothing beside", 0, r.what || r.start || r.next || r.next_line || of_record(r) || of_error(r));
+        struct packed_refs_start_reply s = packed_refs_start(k, big, most + 1);
+        want("start, nothing beside", 0, s.place || s.line || s.text_len);
+        struct packed_refs_check_reply c = packed_refs_check(k, big, most + 1);
+        want("check, nothing beside", 0, c.place || c.line || c.count || c.text_len);
+        struct packed_refs_ask_reply a = packed_refs_ask(k, big, most + 1, small, 3);
+        want("ask, nothing beside", 0, a.place || a.line || a.name_at || a.name_len || a.peeled_at || a.text_len || a.fault);
+        struct packed_refs_merge_reply m = packed_refs_merge(k, big, most + 1, small, 0, index, 1, small, 0);
+        want("merge, nothing beside", 0, m.place || m.line || m.length || m.text_len);
+    }
+    /* The largest line number stays. */
     uint8_t line_feed = '\n';
-    struct packed_refs_step_reply r = packed_refs_step(1, &line_feed, 1, 0, UINT64_MAX);
-    want("the largest item number", 1, r.what == 2 && r.why == 41 && r.error == UINT64_MAX && r.item == UINT64_MAX);
+    r = packed_refs_walk(1, &line_feed, 1, 0, UINT64_MAX);
+    want("the largest line number", 1, r.what == 2 && r.why == 41 && r.line == UINT64_MAX && r.next_line == UINT64_MAX);
+    r = packed_refs_walk(1, &line_feed, 1, 1, UINT64_MAX);
+    want("the largest line number, at the end", 1, r.what == 0 && r.line == 0 && r.next_line == UINT64_MAX);
     munmap(big, most + 1);
     printf("limits: %u asked, %u wrong\n", asked, wrong);
 }

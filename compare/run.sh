@@ -1,6 +1,6 @@
 #!/usr/bin/env bash
 # compare/run.sh [COUNT [SEED]]: builds the library and compares it with the Rust on every short input and COUNT random ones an operation (default
-# 100,000, about four minutes); names also with Git. Not part of the gate, since it needs the oracle: the real gix-ref 0.67.1 as a program.
+# 100,000, about six minutes); names also with Git. Not part of the gate, since it needs the oracle: the real gix-ref 0.67.1 as a program.
 #   ORACLE             the oracle's program, which is not part of this repository; its own README says how it is built
 #   LIBHOST, INCLUDE   the library and its header, as compare/build-ours.sh has them
 set -eu

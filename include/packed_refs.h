@@ -22,7 +22,9 @@
  *   10  index shorter than the number of edits           44  a record's name breaks the name rules
  *   11  two edits of one name                            45  a record's ^ line can't be read
  *
- * Of 41 to 45, which say what part of a record is bad, the first in that order is given.
+ * Of 41 to 45, which say what part of a record is bad, the first in that order is given. Beside them stand where the record starts, its line's number (one
+ * more than the line feeds before that place) and its text: the whole line from that place on without its LF. A CR before the LF belongs to the text.
+ * packed_refs_lookup, which is lent no whole file, gives the place alone.
  *
  * Every other field is 0 where its comment does not give it beside that number. Every place is counted in the bytes that were lent. */
 #ifndef PACKED_REFS_H
@@ -55,39 +57,47 @@ uint32_t packed_refs_name(const uint8_t *name, size_t name_len);
 struct packed_refs_start_reply {
     uint32_t number;    /* 0, 1, 2, 17 */
     size_t place;       /* beside 0: the first step's place, behind the header */
-    uint64_t item;      /* beside 0: the first step's item number */
+    uint64_t line;      /* beside 0: the line that the first step is on: 1, or 2 behind a header */
     size_t text_len;    /* beside 2: the length of the first line, which starts at 0 */
 };
 struct packed_refs_start_reply packed_refs_start(uint32_t kind, const uint8_t *file, size_t file_len);
 
-/* One step. A record's id stands at start and has 40 or 64 digits by its kind. */
+/* One step. A record's id stands at start and has 40 or 64 digits by its kind. The line of an error is counted in the lent bytes, whatever the place: a
+ * place inside a line gives that line's number, and the text from the place on. It is counted only where there is an error to tell; who reads a whole file
+ * walks. */
 struct packed_refs_step_reply {
     uint32_t number;    /* 0, 1, 17 */
     uint32_t what;      /* beside 0: 0 the end, 1 a record, 2 an error */
     size_t start;       /* of a record or an error: where it starts, the place that was given */
     size_t next;        /* beside 0: the next step's place; at the end the length */
-    uint64_t item;      /* beside 0: the next step's item number; at the end as it came */
     size_t name_at;     /* of a record */
     size_t name_len;    /* of a record */
     size_t peeled_at;   /* of a record: where its peeled id stands, or 0 where it has none */
     uint32_t why;       /* of an error: 41 to 45 */
-    uint64_t error;     /* of an error: its item number */
-    size_t text_len;    /* of an error: the length of its text, which starts at start */
+    uint64_t line;      /* of an error: its line's number; of packed_refs_walk the one that was given; of packed_refs_step_prefix 0 */
+    uint64_t next_line; /* of packed_refs_walk, beside 0: the next step's line; of the other steps 0 */
+    size_t text_len;    /* of an error: the length of its text, the whole line from start on without its LF */
 };
-struct packed_refs_step_reply packed_refs_step(
-    uint32_t kind, const uint8_t *bytes, size_t bytes_len, size_t place, uint64_t item);
+struct packed_refs_step_reply packed_refs_step(uint32_t kind, const uint8_t *bytes, size_t bytes_len, size_t place);
 
-/* The same with a prefix: a record whose name does not begin with it ends the iteration. */
+/* The same step for who reads on, so that no line feed is counted twice: it is given the line of its place and hands on the next one's, in next_line. That
+ * is the line given and the item's line feeds: a record's 1, with its ^ line 2; an error's 1, or 0 at a last line without LF. The largest number stays, and at
+ * an end it is as it came. From packed_refs_start's place and line to the end, every line that it tells is the true one. */
+struct packed_refs_step_reply packed_refs_walk(uint32_t kind, const uint8_t *bytes, size_t bytes_len, size_t place, uint64_t line);
+
+/* The step with a prefix: a record whose name does not begin with it ends the iteration. A listing starts in the middle, so its errors have their place,
+ * counted in all the lent bytes, and their text, but no line; also with an empty prefix. */
 struct packed_refs_step_reply packed_refs_step_prefix(
-    uint32_t kind, const uint8_t *bytes, size_t bytes_len, const uint8_t *prefix, size_t prefix_len, size_t place, uint64_t item);
+    uint32_t kind, const uint8_t *bytes, size_t bytes_len, const uint8_t *prefix, size_t prefix_len, size_t place);
 
 /* ---- The check of a whole file ---- */
 
 struct packed_refs_check_reply {
     uint32_t number;    /* 0, 1, 2, 6, 17, 41 to 45 */
     size_t place;       /* beside 41 to 45 and 6: where the first such item starts */
+    uint64_t line;      /* beside 41 to 45: its line's number */
     size_t count;       /* beside 0: how many records */
-    size_t text_len;    /* beside 2: the length of the first line, which starts at 0 */
+    size_t text_len;    /* beside 41 to 45: the length of its text, which starts at place; beside 2: of the first line, which starts at 0 */
 };
 struct packed_refs_check_reply packed_refs_check(uint32_t kind, const uint8_t *file, size_t file_len);
 
@@ -112,7 +122,6 @@ struct packed_refs_lookup_reply packed_refs_lookup(
 struct packed_refs_prefix_reply {
     uint32_t number;    /* 0, 1, 2, 17 */
     size_t place;       /* beside 0: the first step's place */
-    uint64_t item;      /* beside 0: the first step's item number */
     size_t text_at;     /* beside 2: where the text starts */
     size_t text_len;    /* beside 2 */
 };
@@ -125,10 +134,11 @@ struct packed_refs_prefix_reply packed_refs_prefix(
 struct packed_refs_ask_reply {
     uint32_t number;    /* 0, 1, 2, 3, 5, 6, 17, 41 to 45 */
     size_t place;       /* beside 0: where the record starts, and its id; beside 41 to 45 and 6: where the first such item starts */
+    uint64_t line;      /* beside 41 to 45: its line's number */
     size_t name_at;     /* beside 0 */
     size_t name_len;    /* beside 0 */
     size_t peeled_at;   /* beside 0: where the peeled id stands, or 0 where there is none */
-    size_t text_len;    /* beside 2: the length of the first line, which starts at 0 */
+    size_t text_len;    /* beside 41 to 45: the length of its text, which starts at place; beside 2: of the first line, which starts at 0 */
     uint32_t fault;     /* beside 0: the number that the check gives of the whole file: 0 where it passes, else 6 or 41 to 45 */
 };
 struct packed_refs_ask_reply packed_refs_ask(
@@ -167,8 +177,9 @@ struct packed_refs_ask_reply packed_refs_ask(
 struct packed_refs_merge_reply {
     uint32_t number;    /* 0, 1, 2, 6 to 14, 17, 41 to 45 */
     size_t place;       /* beside 41 to 45 and 6: where the item starts in old; beside 7, 8, 9 and 11: where the edit starts in edits */
+    uint64_t line;      /* beside 41 to 45: its line's number in old */
     size_t length;      /* beside 0: the new file's length */
-    size_t text_len;    /* beside 2: the length of old's first line, which starts at 0 */
+    size_t text_len;    /* beside 41 to 45: the length of its text, which starts at place in old; beside 2: of old's first line, which starts at 0 */
 };
 struct packed_refs_merge_reply packed_refs_merge(
     uint32_t kind, const uint8_t *old, size_t old_len, const uint8_t *edits, size_t edits_len, uint32_t *index, size_t index_len, uint8_t *out,

@@ -23,8 +23,10 @@ static void nothing(void) {}
 static void header(void) { packed_refs_header(BYTES(FILE_BYTES)); }
 static void name(void) { packed_refs_name(BYTES("refs/s/a")); }
 static void start(void) { packed_refs_start(1, BYTES(FILE_BYTES)); }
-static void step(void) { packed_refs_step(1, BYTES(FILE_BYTES), 26, 2); }
-static void step_prefix(void) { packed_refs_step_prefix(1, BYTES(FILE_BYTES), BYTES("refs"), 26, 2); }
+static void step(void) { packed_refs_step(1, BYTES(FILE_BYTES), 26); }
+static void walk(void) { packed_refs_walk(1, BYTES(FILE_BYTES), 26, 2); }
+static void step_error(void) { packed_refs_step(1, BYTES(FILE_BYTES), 27); }
+static void step_prefix(void) { packed_refs_step_prefix(1, BYTES(FILE_BYTES), BYTES("refs"), 26); }
 static void check(void) { packed_refs_check(1, BYTES(FILE_BYTES)); }
 static void record_start(void) { packed_refs_record_start(BYTES(FILE_BYTES), 99); }
 static void lookup(void) { packed_refs_lookup(1, BYTES(BODY), BYTES("refs/s/b")); }
@@ -75,6 +77,8 @@ int main(void)
         {"name", name, 1024},
         {"start", start, 1024},
         {"step", step, 1024},
+        {"walk", walk, 1024},
+        {"step at an error", step_error, 1024},
         {"step_prefix", step_prefix, 1024},
         {"check", check, 1024},
         {"record_start", record_start, 1024},

@@ -27,11 +27,11 @@ want 0 "0 charted $name/e3 *" lookup examples/night $name/e3
 want 1 "5 absent $name/e4" lookup examples/night $name/e4
 want 2 '*number 3: *' lookup examples/night refs/sent//e4
 want 0 '0 passed: 28 records' check examples/night
-want 2 "*number 41: a record's id can't be read; *an id can't be guessed*" check examples/damaged
+want 2 "*, line 15: number 41: a record's id can't be read; the record starts at byte 891; it reads '00000000000000000000[?]00000000000003ed5f2 $name/e2'. *an id can't be guessed*" check examples/damaged
 want 0 "0 charted $name/e3 *every name that is charted here stands in a file that does not pass the check: *, line 15: number 41: *" lookup examples/damaged $name/e3
 want 2 '*number 41: *' lookup examples/damaged $name/e2
 want 0 "$name/e1 *" list examples/night $name
-want 2 "41 damaged: item 15, byte 891, line 15, a record's id can't be read: *what to do about 41: *total: 27 records, 1 damaged, *" report examples/damaged
+want 2 "41 damaged: line 15, byte 891, a record's id can't be read: *what to do about 41: *total: 27 records, 1 damaged, *" report examples/damaged
 want 0 '# pack-refs with: *' merge examples/night examples/edits
 want 0 'packed-refs: the new file has 28 records' merge examples/night examples/edits -o "$dir/new"
 want 0 "0 charted $name/e4 *" lookup "$dir/new" $name/e4
@@ -58,6 +58,16 @@ printf '%s refs/s.lock/a\n' $digits >"$dir/lock"
 want 2 "*number 44: a record's name breaks the name rules; *; its name is 'refs/s.lock/a': a part of it ends with .lock. *" check "$dir/lock"
 printf '%s refs/s/a\n^%.39s\n' $digits $digits >"$dir/peeled"
 want 2 "*number 45: a record's ^ line can't be read; *" check "$dir/peeled"
+
+# the line that opens in an editor: a header and ^ lines are counted, a last line without LF loses nothing
+printf '# pack-refs with: \n%s refs/s/a\n^%s\nrubbish\n%s refs/s/' $digits $digits $digits >"$dir/lines"
+want 2 "41 damaged: line 4, byte 111, a record's id can't be read: rubbish
+43 damaged: line 5, byte 119, a record's line is not ended properly: $digits refs/s/
+*" report "$dir/lines"
+want 2 "*/lines, line 4: number 41: *; the record starts at byte 111; it reads 'rubbish'. *" check "$dir/lines"
+want 2 '*"line":4,"byte":111,"text":"rubbish","length":7,"message":*' check --json "$dir/lines"
+printf '%s refs/s/b\n^%s\n%s refs/s/a\n' $digits $digits $digits >"$dir/order"
+want 2 '*/order, line 3: number 6: *; the record starts at byte 92. *' check "$dir/order"
 
 # closed descriptors, through ./packed-refs too
 ./packed-refs check - <&- 2>"$dir/said"

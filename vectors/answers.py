@@ -17,6 +17,9 @@ GROUPS = [
     ("prefix listing", inputs.short_sought("p"), inputs.sought("p"), 100, 150), ("merge", inputs.short_merges(), inputs.merges, 150, 300),
     ("loose", inputs.short_contents(), inputs.contents, 100, 150), ("ask", inputs.short_sought("a"), inputs.asks, 50, 150),
 ]
+STEPS = [
+    ("step at a place", inputs.short_steps("t"), inputs.steps("t"), 60, 140), ("walk from a line", inputs.short_steps("w"), inputs.steps("w"), 60, 140),
+]
 
 
 def asked_of(q, answer):
@@ -130,20 +133,44 @@ def charted():
             yield from (("a", kind, b, name) for name in (b"refs/g", b"refs/h", b"refs/i"))
 
 
+def behind_peeled():
+    """A bad line behind five records, four of them peeled: line 11 of a file with a header, and the Rust's number is 7. It ends in LF, in CR LF or with the
+    file, or a record follows."""
+    for kind in (1, 2):
+        peeled = b"^" + b"4" * model.DIGITS[kind] + LF
+        records = b"".join(good_record(kind, b"refs/%c" % c) + (b"" if c == b"c"[0] else peeled) for c in b"abcde")
+        for head in (b"", inputs.SORTED):
+            for bad in (b"x\n", b"x\r\n", b"x", b"x\n" + good_record(kind, b"refs/f")):
+                b = head + records + bad
+                yield from (("i", kind, b), ("c", kind, b), ("a", kind, b, b"refs/g"), ("t", kind, b, len(head + records)))
+                yield "m", kind, b, [("u", b"refs/j", b"\x55" * (model.DIGITS[kind] // 2))], 1, 900
+
+
+def walks():
+    """A walk of each item by its line feeds (a record, one with a `^` line, a bad line and one that is not ended) and at an end, from the least lines and the
+    greatest."""
+    for kind in (1, 2):
+        record, peeled = good_record(kind, b"refs/a"), b"^" + b"4" * model.DIGITS[kind] + b"\r\n"
+        for b, at in (record, 0), (record + peeled, 0), (b"x\n", 0), (b"x", 0), (record, len(record)):
+            yield from (("w", kind, b, at, line) for line in (0, 1, model.LAST_LINE - 2, model.LAST_LINE - 1, model.LAST_LINE))
+
+
 def first_faults_by_git(rnd, count):
-    """The check of files whose first fault Git names with the same number and line; the line's place is counted. Of the rows of compare/git_verify.py one may
-    turn them: of a bad `^` line Git names that line, and the record begins a line before."""
+    """The check of files whose first fault Git names with the same number and line; the line's place and length are counted. Of the rows of
+    compare/git_verify.py one may turn them: of a bad `^` line Git names that line, and the record begins a line before."""
     git = git_verify.Git(os.environ["GIT_VERIFY"])
     by = collections.defaultdict(list)
     for kind, b in itertools.islice(git_verify.files(inputs.Make(rnd)), 2000):
-        said = model.check(kind, b)
-        if said.startswith("2 ") or not set(git_verify.Turned(kind, b, said, model.file_items(b, kind)[2]).rows) <= {"peeled line named"}:
+        said, walk = model.check(kind, b), model.iteration(kind, b, model.spelled_lines)
+        if said.startswith("2 ") or not set(git_verify.Turned(kind, b, said, git_verify.Walked(walk)).rows) <= {"peeled line named"}:
             continue
         for line, number in git.faults(kind, b)[:1]:
-            lines_before = line - (2 if number == 45 else 1)
-            text = asked_of(("c", kind, b), f"{number} {sum(len(x) + 1 for x in b.split(LF)[:lines_before])}")
-            if fits(text):
-                by[number].append(text)
+            line -= number == 45
+            *before, text = b.split(LF)[:line]
+            place = sum(len(x) + 1 for x in before)
+            question = asked_of(("c", kind, b), f"6 {place}" if number == 6 else f"{number} {place} {line} {len(text)}")
+            if fits(question):
+                by[number].append(question)
     return fair_share(rnd, by, count)
 
 
@@ -162,16 +189,19 @@ def main():
             answers.append(line + said + b"\n")
             counts.update(["all", by, chr(head[0])])
 
-    comment("data/questions has the questions, stdout the answers. Made by vectors/answers.py; vectors/README.md says how to read them.")
-    for title, names in git_names.answered():
-        held_to_the_rust(names)
-        group(title, [asked_of(("n", 1, name), str(number)) for name, number in names], "Git")
-    for what, short, make, n_short, n_random in GROUPS:
+    def sampled(what, short, make, n_short, n_random):
         rnd = random.Random(f"vectors {what}")
         every = list(short)
         some = rnd.sample(every, min(len(every), 4000))
         asked = chosen(rnd, some, n_short, theirs)
         group(f"{what}, gix-ref 0.67.1", asked + chosen(rnd, list(itertools.islice(make(inputs.Make(rnd)), 6000)), n_random, theirs), "the Rust")
+
+    comment("data/questions has the questions, stdout the answers. Made by vectors/answers.py; vectors/README.md says how to read them.")
+    for title, names in git_names.answered():
+        held_to_the_rust(names)
+        group(title, [asked_of(("n", 1, name), str(number)) for name, number in names], "Git")
+    for one in GROUPS:
+        sampled(*one)
     group("names and edits around the limits, gix-ref 0.67.1", [asked_of(q, a) for q, a in theirs(list(long_ones()))], "the Rust")
     group("lock names in each place, gix-ref 0.67.1", [asked_of(q, a) for q, a in theirs(list(in_each_place(git_names.LOCKS_IN_EACH_PLACE)))], "the Rust")
     group("bad records: each fault and each two, gix-ref 0.67.1 (that it is bad) and a model of documents 01 and 02 (which part)",
@@ -182,6 +212,10 @@ def main():
     of_model = lambda questions: [(q, model.merge(*q[1:])) for q in questions]
     asked = chosen(rnd, list(itertools.islice(inputs.lists(inputs.Make(rnd)), 6000)), 300, of_model)
     group("what the port adds to the merge (edit lists as bytes, 7 to 12, the index), by a model of documents 01 and 02", asked, "the model")
+    for one in STEPS:
+        sampled(*one)
+    group("a bad line behind peeled ones, gix-ref 0.67.1 and a model of documents 01 and 02", [asked_of(q, a) for q, a in theirs(list(behind_peeled()))], "the Rust")
+    group("walks by the least lines and the greatest, gix-ref 0.67.1 and a model of documents 01 and 02", [asked_of(q, a) for q, a in theirs(list(walks()))], "the Rust")
     for name, texts in ("data/questions", questions), ("stdout", answers):
         with open(os.path.join(sys.argv[1], name), "wb") as f:
             f.writelines(texts)

@@ -170,7 +170,8 @@ impl fmt::Debug for Merged {
 /// last.delete(b"refs/s/a").unwrap();
 /// assert_eq!(merge(old, &last), Ok(Merged::RemoveFile));
 ///
-/// assert_eq!(merge(b"rubbish\n", &edits).unwrap_err().number(), 41);
+/// let error = merge([&old[..], b"rubbish\n"].concat(), &edits).unwrap_err();
+/// assert_eq!((error.number(), error.place(), error.line(), error.text()), (41, Some(50), Some(2), &b"rubbish"[..]));
 /// ```
 pub fn merge(old: impl AsRef<[u8]>, edits: &Edits) -> Result<Merged, Error> {
     let old = old.as_ref();
@@ -184,7 +185,7 @@ pub fn merge(old: impl AsRef<[u8]>, edits: &Edits) -> Result<Merged, Error> {
         }
         13 => Ok(Merged::NothingToDo),
         14 => Ok(Merged::RemoveFile),
-        number => Err(refusal(number, old, said.place, said.text_len)),
+        number => Err(refusal(number, old, said.place, said.line, said.text_len)),
     }
 }
 

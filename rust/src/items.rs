@@ -7,11 +7,11 @@ use std::fmt;
 #[derive(Clone, Copy, PartialEq, Eq, Hash)]
 #[must_use]
 pub struct Damage<'a> {
-    /// The item's number. It counts items and not lines: a header is item 1, a record with its `^` line is one item.
-    pub item: u64,
-    /// Where it starts.
+    /// Where it starts, counted in the whole file.
     pub place: usize,
-    /// The line without its last byte, which is its LF. On a last line without LF that cuts a real byte.
+    /// The line that it starts on, as an editor counts: one more than the line feeds before it. None in a listing by prefix, which starts in the middle.
+    pub line: Option<u64>,
+    /// The whole line from that place on, without its LF. A CR before the LF stays.
     pub text: &'a [u8],
     /// Which part of the record is bad, the first of them: numbers 41 to 45.
     ///
@@ -24,13 +24,17 @@ impl fmt::Debug for Damage<'_> {
     fn fmt(&self, f: &mut fmt::Formatter<'_>) -> fmt::Result {
         let text = Escaped(self.text);
         let mut shown = f.debug_struct("Damage");
-        shown.field("item", &self.item).field("place", &self.place).field("text", &text).field("reason", &self.reason).finish()
+        shown.field("place", &self.place).field("line", &self.line).field("text", &text).field("reason", &self.reason).finish()
     }
 }
 
 impl fmt::Display for Damage<'_> {
     fn fmt(&self, f: &mut fmt::Formatter<'_>) -> fmt::Result {
-        write!(f, "{}; item {}, it starts at byte {}: {}", self.reason, self.item, self.place, Escaped(self.text))
+        write!(f, "{}; ", self.reason)?;
+        if let Some(line) = self.line {
+            write!(f, "line {line}, ")?;
+        }
+        write!(f, "it starts at byte {}: {}", self.place, Escaped(self.text))
     }
 }
 
@@ -41,16 +45,20 @@ impl std::error::Error for Damage<'_> {}
 /// ```
 /// use packed_refs::{IdKind, Reason, Table};
 /// let file = b"1111111111111111111111111111111111111111 refs/s/a\n\
-///              rubbish\n\
+///              ^3333333333333333333333333333333333333333\n\
+///              rubbish\r\n\
 ///              2222222222222222222222222222222222222222 refs/s/b\n\
-///              ^3333333333333333333333333333333333333333\n";
+///              cut";
 /// let mut items = Table::new(IdKind::Sha1, file).items().unwrap();
-/// assert_eq!(items.next().unwrap().unwrap().name, b"refs/s/a");
+/// let a = items.next().unwrap().unwrap();
+/// assert_eq!(a.peeled, Some(&b"3333333333333333333333333333333333333333"[..]));
+/// // where it stands, the line that opens in an editor, and the whole of that line
 /// let damage = items.next().unwrap().unwrap_err();
-/// assert_eq!((damage.item, damage.place, damage.text), (2, 50, &b"rubbish"[..]));
+/// assert_eq!((damage.place, damage.line, damage.text), (92, Some(3), &b"rubbish\r"[..]));
 /// assert_eq!(damage.reason, Reason::BadId);
-/// let b = items.next().unwrap().unwrap();
-/// assert_eq!(b.peeled, Some(&b"3333333333333333333333333333333333333333"[..]));
+/// assert_eq!(items.next().unwrap().unwrap().name, b"refs/s/b");
+/// let cut = items.next().unwrap().unwrap_err();
+/// assert_eq!((cut.place, cut.line, cut.text), (151, Some(5), &b"cut"[..]));
 /// assert!(items.next().is_none());
 /// ```
 #[derive(Clone)]
@@ -58,25 +66,41 @@ impl std::error::Error for Damage<'_> {}
 pub struct Items<'a> {
     kind: IdKind,
     bytes: &'a [u8],
-    prefix: Vec<u8>,
     place: usize,
-    item: u64,
+    way: Way,
+}
+
+/// How it goes on from an item to the next.
+#[derive(Clone)]
+enum Way {
+    /// To the end of the file, from the line that the next item starts on.
+    Walk(u64),
+    /// Up to the first record whose name does not begin with these bytes.
+    Prefix(Vec<u8>),
 }
 
 /// Where it is, and not what stands in the file.
 impl fmt::Debug for Items<'_> {
     fn fmt(&self, f: &mut fmt::Formatter<'_>) -> fmt::Result {
-        let (bytes, prefix) = (self.bytes.len(), Escaped(&self.prefix));
         let mut shown = f.debug_struct("Items");
-        shown.field("kind", &self.kind).field("bytes", &bytes).field("prefix", &prefix);
-        shown.field("place", &self.place).field("item", &self.item).finish()
+        shown.field("kind", &self.kind).field("bytes", &self.bytes.len()).field("place", &self.place);
+        match &self.way {
+            Way::Walk(line) => shown.field("line", line),
+            Way::Prefix(prefix) => shown.field("prefix", &Escaped(prefix)),
+        };
+        shown.finish()
     }
 }
 
 impl<'a> Items<'a> {
-    /// From a place and an item number on, up to the first record whose name does not begin with the prefix. Bytes and prefix are within the limit.
-    pub(crate) fn new(kind: IdKind, bytes: &'a [u8], prefix: &[u8], place: usize, item: u64) -> Items<'a> {
-        Items { kind, bytes, prefix: prefix.to_vec(), place, item }
+    /// From a place and its line on to the end. The bytes are within the limit.
+    pub(crate) fn walk(kind: IdKind, bytes: &'a [u8], place: usize, line: u64) -> Items<'a> {
+        Items { kind, bytes, place, way: Way::Walk(line) }
+    }
+
+    /// From a place on, up to the first record whose name does not begin with the prefix. Bytes and prefix are within the limit.
+    pub(crate) fn with_prefix(kind: IdKind, bytes: &'a [u8], prefix: &[u8], place: usize) -> Items<'a> {
+        Items { kind, bytes, place, way: Way::Prefix(prefix.to_vec()) }
     }
 
     /// Where the next item starts.
@@ -85,10 +109,22 @@ impl<'a> Items<'a> {
         self.place
     }
 
-    /// The next item's number.
+    /// The line that the next item starts on. None in a listing by prefix.
+    ///
+    /// ```
+    /// use packed_refs::{IdKind, Table};
+    /// let file = b"# pack-refs with: sorted \n1111111111111111111111111111111111111111 refs/s/a\n^3333333333333333333333333333333333333333\n";
+    /// let mut items = Table::new(IdKind::Sha1, file).items().unwrap();
+    /// assert_eq!(items.line(), Some(2));
+    /// let _ = items.next();
+    /// assert_eq!(items.line(), Some(4));
+    /// ```
     #[must_use]
-    pub fn item(&self) -> u64 {
-        self.item
+    pub fn line(&self) -> Option<u64> {
+        match self.way {
+            Way::Walk(line) => Some(line),
+            Way::Prefix(_) => None,
+        }
     }
 }
 
@@ -96,19 +132,26 @@ impl<'a> Iterator for Items<'a> {
     type Item = Result<Record<'a>, Damage<'a>>;
 
     fn next(&mut self) -> Option<Self::Item> {
-        let said = sys::step_prefix(self.kind.number(), self.bytes, &self.prefix, self.place, self.item);
+        let kind = self.kind.number();
+        let (said, line) = match &mut self.way {
+            Way::Walk(line) => {
+                let said = sys::walk(kind, self.bytes, self.place, *line);
+                *line = said.next_line;
+                (said, Some(said.line))
+            }
+            Way::Prefix(prefix) => (sys::step_prefix(kind, self.bytes, prefix, self.place), None),
+        };
         // The kind is known and the sizes were tested. A refusal must never look like the end.
-        assert_eq!(said.number, 0, "packed_refs_step_prefix refused what packed_refs_start had taken");
+        assert_eq!(said.number, 0, "a step refused what the start had taken");
         self.place = said.next;
-        self.item = said.item;
         match said.what {
             0 => None,
             1 => Some(Ok(Record::at(self.kind, self.bytes, said.start, said.name_at, said.name_len, said.peeled_at))),
             2 => {
                 let text = &self.bytes[said.start..said.start + said.text_len];
-                Some(Err(Damage { item: said.error, place: said.start, text, reason: Reason::of(said.why) }))
+                Some(Err(Damage { place: said.start, line, text, reason: Reason::of(said.why) }))
             }
-            other => panic!("packed_refs_step_prefix gave what {other}"),
+            other => panic!("a step gave what {other}"),
         }
     }
 }

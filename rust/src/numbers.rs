@@ -16,6 +16,8 @@ pub enum Beside {
     FirstLine,
     /// Where a record starts in the file.
     Record,
+    /// Where a record starts in the file, and its line: the number and the text. (A lookup gives the place alone.)
+    Line,
     /// Where an edit begins in the edit list.
     Edit,
 }
@@ -28,6 +30,7 @@ impl Beside {
             Beside::Nothing => "nothing",
             Beside::FirstLine => "that line's text",
             Beside::Record => "where the record starts in the file",
+            Beside::Line => "where the record starts in the file, its line's number and text",
             Beside::Edit => "where the edit begins in the list",
         }
     }
@@ -194,7 +197,7 @@ numbers! {
             "Do not send.",
             "See whether the right file was named. A table that has grown so large is not to be split: a name in one part is absent from \
              the other. Call whoever keeps it.";
-        41 BadId Record: "a record's id can't be read",
+        41 BadId Line: "a record's id can't be read",
             "Do not send.",
             concat!(
                 "Copy the file, then restore the whole line at that place, its id and its name, from the chart or from another copy of that very \
@@ -204,7 +207,7 @@ numbers! {
                 cut!(),
                 lost!()
             );
-        42 NoSpace Record: "no space stands behind a record's id",
+        42 NoSpace Line: "no space stands behind a record's id",
             "Do not send.",
             concat!(
                 "Copy the file, then restore the line at that place, its id and its name, from last night's file if exactly one line there has that id \
@@ -213,7 +216,7 @@ numbers! {
                 cut!(),
                 lost!()
             );
-        43 BadLineEnd Record: "a record's line is not ended properly",
+        43 BadLineEnd Line: "a record's line is not ended properly",
             "Do not send.",
             concat!(
                 "Copy the file, then restore the line at that place from last night's file if exactly one line there begins with what is left of it, \
@@ -223,7 +226,7 @@ numbers! {
                 cut!(),
                 lost!()
             );
-        44 BadRecordName Record: "a record's name breaks the name rules",
+        44 BadRecordName Line: "a record's name breaks the name rules",
             "Do not send.",
             concat!(
                 "Copy the file, then restore the name at that place as the chart or another copy of that line has it. A space or a ^ in it may come from a \
@@ -232,7 +235,7 @@ numbers! {
                 joined!(),
                 lost!()
             );
-        45 BadPeeled Record: "a record's ^ line can't be read",
+        45 BadPeeled Line: "a record's ^ line can't be read",
             "Do not send.",
             concat!(
                 "Copy the file, then restore the ^ line below that record from another copy, or from the tag that the record's id names; the record's \

@@ -33,13 +33,13 @@ pub struct StartReply {
     pub number: u32,
     /// Behind the header.
     pub place: usize,
-    /// The first item's number.
-    pub item: u64,
+    /// The line that the first item is on: 1, or 2 behind a header.
+    pub line: u64,
     /// The length of number 2's text, which starts at 0.
     pub text_len: usize,
 }
 
-/// What [`step`] and [`step_prefix`] give.
+/// What [`step`], [`walk`] and [`step_prefix`] give.
 #[repr(C)]
 #[derive(Clone, Copy, Debug, PartialEq, Eq)]
 #[must_use = "its first field says whether the rest is an answer"]
@@ -52,8 +52,6 @@ pub struct StepReply {
     pub start: usize,
     /// The place for the next step.
     pub next: usize,
-    /// The item number for the next step.
-    pub item: u64,
     /// Where a record's name stands.
     pub name_at: usize,
     /// How long it is.
@@ -62,9 +60,11 @@ pub struct StepReply {
     pub peeled_at: usize,
     /// Which part of a record is bad, of an error: 41 to 45.
     pub why: u32,
-    /// An error's item number.
-    pub error: u64,
-    /// The length of an error's text.
+    /// An error's line: counted by [`step`], as it was given to [`walk`], 0 from [`step_prefix`].
+    pub line: u64,
+    /// The line for the next [`walk`]; 0 from the other steps.
+    pub next_line: u64,
+    /// The length of an error's text: the whole line from `start` on without its LF.
     pub text_len: usize,
 }
 
@@ -77,9 +77,11 @@ pub struct CheckReply {
     pub number: u32,
     /// Where the item of 6 or of 41 to 45 starts.
     pub place: usize,
+    /// The line of 41 to 45.
+    pub line: u64,
     /// How many records.
     pub count: usize,
-    /// The length of number 2's text, which starts at 0.
+    /// The length of the text of 41 to 45, which starts at `place`, or of number 2's, which starts at 0.
     pub text_len: usize,
 }
 
@@ -109,8 +111,6 @@ pub struct PrefixReply {
     pub number: u32,
     /// The place for the first step.
     pub place: usize,
-    /// Its item number.
-    pub item: u64,
     /// Where number 2's text starts.
     pub text_at: usize,
     /// How long that is.
@@ -126,13 +126,15 @@ pub struct AskReply {
     pub number: u32,
     /// Where the record starts, which is where its id stands, or the item of 6 or of 41 to 45.
     pub place: usize,
+    /// The line of 41 to 45.
+    pub line: u64,
     /// Where its name stands.
     pub name_at: usize,
     /// How long that is.
     pub name_len: usize,
     /// Where its peeled id stands; 0 where there is none.
     pub peeled_at: usize,
-    /// The length of number 2's text, which starts at 0.
+    /// The length of the text of 41 to 45, which starts at `place`, or of number 2's, which starts at 0.
     pub text_len: usize,
     /// Beside 0: what the check gives of the whole file. 0 where it passes, else 6 or 41 to 45.
     pub fault: u32,
@@ -147,9 +149,11 @@ pub struct MergeReply {
     pub number: u32,
     /// Where the item of 6 or of 41 to 45 starts in the old file, or the edit of 7, 8, 9 or 11 in the list.
     pub place: usize,
+    /// The line of 41 to 45 in the old file.
+    pub line: u64,
     /// The new file's length.
     pub length: usize,
-    /// The length of number 2's text, which starts at 0 in the old file.
+    /// The length of the text of 41 to 45, which starts at `place` in the old file, or of number 2's, which starts at 0 there.
     pub text_len: usize,
 }
 
@@ -175,7 +179,8 @@ mod c {
         pub fn packed_refs_header(file: *const u8, len: usize) -> HeaderReply;
         pub fn packed_refs_name(name: *const u8, len: usize) -> u32;
         pub fn packed_refs_start(kind: u32, file: *const u8, len: usize) -> StartReply;
-        pub fn packed_refs_step(kind: u32, bytes: *const u8, len: usize, place: usize, item: u64) -> StepReply;
+        pub fn packed_refs_step(kind: u32, bytes: *const u8, len: usize, place: usize) -> StepReply;
+        pub fn packed_refs_walk(kind: u32, bytes: *const u8, len: usize, place: usize, line: u64) -> StepReply;
         pub fn packed_refs_step_prefix(
             kind: u32,
             bytes: *const u8,
@@ -183,7 +188,6 @@ mod c {
             prefix: *const u8,
             prefix_len: usize,
             place: usize,
-            item: u64,
         ) -> StepReply;
         pub fn packed_refs_check(kind: u32, file: *const u8, len: usize) -> CheckReply;
         pub fn packed_refs_record_start(bytes: *const u8, len: usize, place: usize) -> usize;
@@ -222,14 +226,19 @@ pub fn start(kind: u32, file: &[u8]) -> StartReply {
     unsafe { c::packed_refs_start(kind, file.as_ptr(), file.len()) }
 }
 
-/// One step of an iteration.
-pub fn step(kind: u32, bytes: &[u8], place: usize, item: u64) -> StepReply {
-    unsafe { c::packed_refs_step(kind, bytes.as_ptr(), bytes.len(), place, item) }
+/// One step from any place. It counts the line of an error in the lent bytes: who reads a whole file walks.
+pub fn step(kind: u32, bytes: &[u8], place: usize) -> StepReply {
+    unsafe { c::packed_refs_step(kind, bytes.as_ptr(), bytes.len(), place) }
 }
 
-/// One step with a prefix: a good record whose name does not begin with it ends the iteration.
-pub fn step_prefix(kind: u32, bytes: &[u8], prefix: &[u8], place: usize, item: u64) -> StepReply {
-    unsafe { c::packed_refs_step_prefix(kind, bytes.as_ptr(), bytes.len(), prefix.as_ptr(), prefix.len(), place, item) }
+/// One step of who reads on: it is given the line of its place, and hands on the next one's.
+pub fn walk(kind: u32, bytes: &[u8], place: usize, line: u64) -> StepReply {
+    unsafe { c::packed_refs_walk(kind, bytes.as_ptr(), bytes.len(), place, line) }
+}
+
+/// One step with a prefix: a good record whose name does not begin with it ends the iteration. It tells no line.
+pub fn step_prefix(kind: u32, bytes: &[u8], prefix: &[u8], place: usize) -> StepReply {
+    unsafe { c::packed_refs_step_prefix(kind, bytes.as_ptr(), bytes.len(), prefix.as_ptr(), prefix.len(), place) }
 }
 
 /// The check of a whole file.

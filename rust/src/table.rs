@@ -147,7 +147,7 @@ pub fn header(file: impl AsRef<[u8]>) -> Result<Header, Error> {
             sorted: said.sorted != 0,
             body: said.place,
         }),
-        number => Err(refusal(number, file, 0, said.text_len)),
+        number => Err(refusal(number, file, 0, 0, said.text_len)),
     }
 }
 
@@ -181,7 +181,7 @@ pub fn check_name(name: impl AsRef<[u8]>) -> Result<(), Error> {
 /// assert_eq!((record.name, fault), (&b"refs/s/a"[..], Reason::BadId));
 /// // what might have stood on the damaged line is never absent
 /// let error = ask(IdKind::Sha1, file, b"refs/s/b").unwrap_err();
-/// assert_eq!((error.number(), error.place()), (41, Some(50)));
+/// assert_eq!((error.number(), error.place(), error.line(), error.text()), (41, Some(50), Some(2), &b"rubbish"[..]));
 /// // without the damaged line it is
 /// assert!(matches!(ask(IdKind::Sha1, &file[..50], b"refs/s/a"), Ok(Asked::Charted(_))));
 /// assert_eq!(ask(IdKind::Sha1, &file[..50], b"refs/s/b"), Ok(Asked::Absent));
@@ -196,7 +196,7 @@ pub fn ask<'a>(kind: IdKind, file: &'a (impl AsRef<[u8]> + ?Sized), name: impl A
         (0, 0) => Ok(Asked::Charted(record())),
         (0, fault) => Ok(Asked::ChartedInDamagedFile { record: record(), fault: Reason::of(fault) }),
         (5, _) => Ok(Asked::Absent),
-        (number, _) => Err(refusal(number, file, said.place, said.text_len)),
+        (number, _) => Err(refusal(number, file, said.place, said.line, said.text_len)),
     }
 }
 
@@ -233,17 +233,23 @@ impl<'a> Table<'a> {
     /// assert!(matches!(table.find(b"refs/s/b"), Ok(Found::Charted(_))));
     /// assert_eq!(table.find(b"refs/s/c"), Ok(Found::Absent));
     ///
+    /// // a line that can't be read: its place, its number in an editor, and its text
+    /// let cut = [&file[..50], b"2222"].concat();
+    /// let error = Table::check(IdKind::Sha1, &cut).unwrap_err();
+    /// assert_eq!((error.number(), error.place(), error.line(), error.text()), (41, Some(50), Some(2), &b"2222"[..]));
+    ///
     /// // a name twice: number 6, and where the second record starts
     /// let twice = [&file[..50], &file[..50]].concat();
     /// let error = Table::check(IdKind::Sha1, &twice).unwrap_err();
-    /// assert_eq!((error.number(), error.place()), (6, Some(50)));
+    /// assert_eq!((error.number(), error.place(), error.line()), (6, Some(50), None));
+    /// assert_eq!(Table::new(IdKind::Sha1, &twice).line_at(50), Some(2));
     /// ```
     pub fn check(kind: IdKind, bytes: &'a (impl AsRef<[u8]> + ?Sized)) -> Result<Checked<'a>, Error> {
         let bytes = bytes.as_ref();
         let said = sys::check(kind.number(), bytes);
         match said.number {
             0 => Ok(Checked { table: Table::new(kind, bytes), header: header(bytes)?, count: said.count }),
-            number => Err(refusal(number, bytes, said.place, said.text_len)),
+            number => Err(refusal(number, bytes, said.place, said.line, said.text_len)),
         }
     }
 
@@ -304,18 +310,47 @@ impl<'a> Table<'a> {
     pub fn items(&self) -> Result<Items<'a>, Error> {
         let said = sys::start(self.kind.number(), self.bytes);
         match said.number {
-            0 => Ok(Items::new(self.kind, self.bytes, b"", said.place, said.item)),
-            number => Err(refusal(number, self.bytes, 0, said.text_len)),
+            0 => Ok(Items::walk(self.kind, self.bytes, said.place, said.line)),
+            number => Err(refusal(number, self.bytes, 0, 0, said.text_len)),
         }
     }
 
-    /// The items from a place on, numbered from a number on, whatever stands before them. A place inside a line is read from there.
-    /// Number 17 where the file is too large.
-    pub fn items_from(&self, place: usize, item: u64) -> Result<Items<'a>, Error> {
-        match sys::step(self.kind.number(), self.bytes, self.bytes.len(), item).number {
-            0 => Ok(Items::new(self.kind, self.bytes, b"", place, item)),
+    /// The items from a place on, whatever stands before them. A place inside a line is read from there. Lines are counted on from the number that is given
+    /// for the place's own: 0 and 1 are where every file begins. Number 17 where the file is too large.
+    ///
+    /// ```
+    /// use packed_refs::{IdKind, Table};
+    /// // read behind a first line that is no header
+    /// let mut items = Table::new(IdKind::Sha1, b"# rubbish\nmore\n").items_from(0, 1).unwrap();
+    /// assert_eq!(items.next().unwrap().unwrap_err().line, Some(1));
+    /// assert_eq!(items.next().unwrap().unwrap_err().line, Some(2));
+    /// ```
+    pub fn items_from(&self, place: usize, line: u64) -> Result<Items<'a>, Error> {
+        match sys::walk(self.kind.number(), self.bytes, self.bytes.len(), line).number {
+            0 => Ok(Items::walk(self.kind, self.bytes, place, line)),
             number => Err(Error::bare(number)),
         }
+    }
+
+    /// The line on which the item starts that starts at a place, by a walk there: for a place that is told without its line, as number 6's. Nothing where no
+    /// item starts there.
+    ///
+    /// ```
+    /// use packed_refs::{IdKind, Table};
+    /// let file = b"1111111111111111111111111111111111111111 refs/s/b\n^3333333333333333333333333333333333333333\n\
+    ///              2222222222222222222222222222222222222222 refs/s/a\n";
+    /// let place = Table::check(IdKind::Sha1, file).unwrap_err().place().unwrap();
+    /// assert_eq!((place, Table::new(IdKind::Sha1, file).line_at(place)), (92, Some(3)));
+    /// assert_eq!(Table::new(IdKind::Sha1, file).line_at(93), None);
+    /// ```
+    #[must_use]
+    pub fn line_at(&self, place: usize) -> Option<u64> {
+        // Where the first line is no header, it is an item too.
+        let mut items = self.items().or_else(|_| self.items_from(0, 1)).ok()?;
+        while items.place() < place {
+            let _ = items.next()?;
+        }
+        items.line().filter(|_| items.place() == place && place < self.bytes.len())
     }
 
     /// Where the record starts that a place lies in: behind the last LF before it, and one line back from a `^` line.
@@ -361,8 +396,7 @@ impl<'a> Checked<'a> {
 
     /// All records, in name order.
     pub fn records(&self) -> Records<'a> {
-        let item = if self.header.body == 0 { 1 } else { 2 };
-        Records(Items::new(self.table.kind, self.table.bytes, b"", self.header.body, item))
+        Records(self.table.items().expect("what passed the check has its start"))
     }
 
     /// The records whose name begins with a prefix, in name order. The prefix may be any bytes: it need not be a name, nor end at a slash.
@@ -382,11 +416,11 @@ impl<'a> Checked<'a> {
         let body = self.header.body;
         let said = sys::prefix(self.table.kind.number(), &self.table.bytes[body..], prefix);
         match said.number {
-            0 => Ok(Records(Items::new(self.table.kind, self.table.bytes, prefix, body + said.place, said.item))),
+            0 => Ok(Records(Items::with_prefix(self.table.kind, self.table.bytes, prefix, body + said.place))),
             number => {
                 let records = &self.table.bytes[body..];
                 let text = records.get(said.text_at..said.text_at + said.text_len).unwrap_or_default();
-                Err(Error::told(number, Given { place: Some(body + said.text_at), text }))
+                Err(Error::told(number, Given { place: Some(body + said.text_at), line: None, text }))
             }
         }
     }
@@ -429,7 +463,9 @@ impl<'a> Iterator for Records<'a> {
 
 impl std::iter::FusedIterator for Records<'_> {}
 
-/// The refusal of a call that was lent a whole file: its place, and its text, which stands at the front.
-pub(crate) fn refusal(number: u32, file: &[u8], place: usize, text_len: usize) -> Error {
-    Error::told(number, Given { place: Some(place), text: &file[..text_len] })
+/// The refusal of a call that was lent a whole file: its place, its line and the text that stands there. Number 2's place is the front. A place without a
+/// text may be one in something else.
+pub(crate) fn refusal(number: u32, file: &[u8], place: usize, line: u64, text_len: usize) -> Error {
+    let text = if text_len == 0 { &[] } else { &file[place..place + text_len] };
+    Error::told(number, Given { place: Some(place), line: Some(line), text })
 }

@@ -35,7 +35,7 @@ fn places_are_counted_in_the_whole_file() {
     }
     assert_eq!(table.records().map(|r| r.place).collect::<Vec<_>>(), [header.len(), expected]);
     assert_eq!(table.with_prefix(b"refs/s/b").unwrap().next().unwrap().place, expected);
-    assert_eq!(table.table().items().unwrap().item(), 2);
+    assert_eq!(table.table().items().unwrap().line(), Some(2));
 }
 
 #[test]
@@ -145,9 +145,13 @@ fn errors_say_what_to_do() {
         assert!(!words.contains('\x1b'));
     }
     assert_eq!(errors[0].text(), b"# what\x1b[2J");
-    let long = [&[b'#'; 300][..], b"\n"].concat();
-    let error = header(&long).unwrap_err();
-    assert_eq!((error.text().len(), error.text_len()), (200, 300));
+    // of a very long line the front is kept
+    for (len, kept) in [(300, 300), (9000, 8192)] {
+        let [no_header, no_record] = [b'#', b'x'].map(|byte| [&vec![byte; len][..], b"\n"].concat());
+        for error in [header(no_header).unwrap_err(), Table::check(KIND, &no_record).unwrap_err()] {
+            assert_eq!((error.text().len(), error.text_len()), (kept, len));
+        }
+    }
 }
 
 #[test]

@@ -1,5 +1,5 @@
 //! Each part of a record that can be bad, by its number, in every answer that tells it; with ids of both lengths.
-use packed_refs::{ask, ask_many, merge, sys, Asked, Edits, Glance, IdKind, Reason, Table};
+use packed_refs::{ask, ask_many, merge, sys, Asked, Edits, Escaped, Glance, IdKind, Reason, Table};
 
 const KINDS: [IdKind; 2] = [IdKind::Sha1, IdKind::Sha256];
 const HEADER: &str = "# pack-refs with: sorted \n";
@@ -77,9 +77,12 @@ struct Damaged {
     bytes: Vec<u8>,
     place: usize,
     number: u32,
+    /// The line's number, and its text.
+    line: u64,
+    text: Vec<u8>,
 }
 
-/// Every bad line behind a header or none, behind a record or none, before one or none.
+/// Every bad line behind a header or none, behind records with and without a `^` line or none, before one or none.
 fn files() -> Vec<Damaged> {
     let mut files = Vec::new();
     for kind in KINDS {
@@ -87,11 +90,21 @@ fn files() -> Vec<Damaged> {
         let whole = bad_lines(kind).into_iter().flat_map(|bad| [("", bad.clone()), (&c[..], bad)]);
         let cut = cut_lines(kind).into_iter().map(|bad| ("", bad));
         for (behind, (line, number)) in whole.chain(cut) {
-            for before in [String::new(), HEADER.into(), a.clone(), format!("{HEADER}{a}")] {
+            let peeled = format!("{a}^{}\r\n", id(kind, '3'));
+            for (before, at) in [
+                (String::new(), 1),
+                (HEADER.into(), 2),
+                (a.clone(), 2),
+                (format!("{HEADER}{a}"), 3),
+                (peeled.clone(), 3),
+                (format!("{HEADER}{peeled}"), 4),
+            ] {
                 if before.is_empty() && line.starts_with('#') {
                     continue; // there it is the header
                 }
-                files.push(Damaged { kind, bytes: format!("{before}{line}{behind}").into_bytes(), place: before.len(), number });
+                let (bytes, place) = (format!("{before}{line}{behind}").into_bytes(), before.len());
+                let text = line.split('\n').next().unwrap_or_default().as_bytes().to_vec();
+                files.push(Damaged { kind, bytes, place, number, line: at, text });
             }
         }
     }
@@ -100,7 +113,7 @@ fn files() -> Vec<Damaged> {
 
 #[test]
 fn the_check_the_merge_and_ask_tell_the_part() {
-    for Damaged { kind, bytes, place, number } in files() {
+    for Damaged { kind, bytes, place, number, line, text } in files() {
         let shown = String::from_utf8_lossy(&bytes);
         let missing = b"refs/s/z";
         let errors = [
@@ -110,28 +123,112 @@ fn the_check_the_merge_and_ask_tell_the_part() {
             ask_many(kind, &bytes, &[missing]).remove(0).unwrap_err(),
         ];
         for error in errors {
-            assert_eq!((error.number(), error.place()), (number, Some(place)), "{shown:?}");
+            assert_eq!((error.number(), error.place(), error.line()), (number, Some(place), Some(line)), "{shown:?}");
+            assert_eq!((error.text(), error.text_len()), (&text[..], text.len()), "{shown:?}");
             assert!(error.reason().is_bad_record());
+            let words = format!("; the record starts at byte {place}, on line {line}; it reads '{}'. ", Escaped(&text));
+            assert!(error.to_string().contains(&words), "{error}");
+        }
+        // where it is charted elsewhere, the number alone is told
+        for name in ["refs/s/a", "refs/s/c"] {
+            let said = sys::ask(kind.number(), &bytes, name.as_bytes());
+            assert!(said.number != 0 || (said.fault, said.line, said.text_len) == (number, 0, 0), "{shown:?}");
         }
     }
 }
 
 #[test]
 fn a_step_tells_the_part_and_goes_on_behind_the_line() {
-    for Damaged { kind, bytes, place, number } in files() {
+    for Damaged { kind, bytes, place, number, line, text } in files() {
         let shown = String::from_utf8_lossy(&bytes);
         let end = bytes[place..].iter().position(|b| *b == b'\n').map_or(bytes.len(), |at| place + at + 1);
-        for said in [sys::step(kind.number(), &bytes, place, 7), sys::step_prefix(kind.number(), &bytes, b"x", place, 7)] {
-            assert_eq!((said.number, said.what, said.why, said.error, said.item), (0, 2, number, 7, 8), "{shown:?}");
-            assert_eq!((said.start, said.next, said.text_len), (place, end, end - place - 1), "{shown:?}");
+        let next_line = if bytes[..end].ends_with(b"\n") { 8 } else { 7 };
+        for (said, line, next_line) in [
+            (sys::step(kind.number(), &bytes, place), line, 0),
+            (sys::walk(kind.number(), &bytes, place, 7), 7, next_line),
+            (sys::step_prefix(kind.number(), &bytes, b"x", place), 0, 0),
+        ] {
+            assert_eq!((said.number, said.what, said.why, said.line, said.next_line), (0, 2, number, line, next_line), "{shown:?}");
+            assert_eq!((said.start, said.next, said.text_len), (place, end, text.len()), "{shown:?}");
         }
         let damage = Table::new(kind, &bytes).items().unwrap().find_map(Result::err).expect("damage");
-        assert_eq!((damage.reason.number(), damage.place, damage.text), (number, place, &bytes[place..end - 1]), "{shown:?}");
-        assert!(damage.to_string().starts_with(&format!("number {number}: {}; item ", damage.reason.row().meaning)), "{damage}");
+        assert_eq!((damage.reason.number(), damage.place, damage.line, damage.text), (number, place, Some(line), &text[..]), "{shown:?}");
+        let words = format!("number {number}: {}; line {line}, it starts at byte {place}: ", damage.reason.row().meaning);
+        assert_eq!(damage.to_string(), format!("{words}{}", Escaped(&text)));
         // a record and an end have none
-        assert_eq!(sys::step(kind.number(), record(kind, "refs/s/a").as_bytes(), 0, 7).why, 0);
-        assert_eq!(sys::step(kind.number(), &bytes, bytes.len(), 7).why, 0);
+        assert_eq!(sys::step(kind.number(), record(kind, "refs/s/a").as_bytes(), 0).why, 0);
+        assert_eq!(sys::step(kind.number(), &bytes, bytes.len()).why, 0);
     }
+}
+
+/// Every item of a file, damaged or not: the line that the iteration stands on is one more than the line feeds before, and so is the line of every error.
+#[test]
+fn an_iteration_knows_the_true_lines() {
+    let mut errors = 0;
+    for Damaged { kind, bytes, .. } in files() {
+        for bytes in [bytes.clone(), bytes.repeat(3), [&bytes[..], b"\n\r\n^\n", &bytes].concat()] {
+            let true_line = |place: usize| 1 + bytes[..place].iter().filter(|b| **b == b'\n').count() as u64;
+            let mut items = Table::new(kind, &bytes).items().unwrap();
+            loop {
+                let (place, line) = (items.place(), items.line());
+                assert_eq!(line, Some(true_line(place)), "{:?}", String::from_utf8_lossy(&bytes));
+                match items.next() {
+                    None => break,
+                    Some(Ok(record)) => assert_eq!(record.place, place),
+                    Some(Err(damage)) => {
+                        assert_eq!((damage.place, damage.line), (place, line));
+                        assert_eq!(sys::step(kind.number(), &bytes, place).line, true_line(place));
+                        errors += 1;
+                    }
+                }
+            }
+        }
+    }
+    assert!(errors > 1000, "{errors}");
+}
+
+/// A listing by prefix starts in the middle: its errors have a place in the whole file and a text, and no line. No checked table has one, so the step is
+/// asked itself.
+#[test]
+fn a_listing_by_prefix_tells_no_line() {
+    for Damaged { kind, bytes, place, number, text, .. } in files() {
+        for prefix in [&b""[..], b"refs/s/", b"z"] {
+            let said = sys::step_prefix(kind.number(), &bytes, prefix, place);
+            assert_eq!((said.what, said.why, said.start, said.line, said.next_line), (2, number, place, 0, 0));
+            assert_eq!(&bytes[said.start..said.start + said.text_len], text);
+        }
+    }
+    let table = format!("{HEADER}{}", record(IdKind::Sha1, "refs/s/a"));
+    let listed = Table::check(IdKind::Sha1, &table).unwrap().with_prefix("refs/s/").unwrap();
+    assert!(!format!("{listed:?}").contains("line"), "{listed:?}");
+}
+
+/// Number 6 has its place alone; a walk there tells the line. No other place is an item's.
+#[test]
+fn a_name_out_of_order_has_its_place_alone() {
+    for kind in KINDS {
+        let (a, b) = (record(kind, "refs/s/a"), record(kind, "refs/s/b"));
+        let peeled = format!("{b}^{}\n", id(kind, '3'));
+        for (before, line) in [(b.clone(), 2), (format!("{HEADER}{b}"), 3), (peeled.clone(), 3), (format!("{HEADER}{peeled}"), 4)] {
+            let bytes = format!("{before}{a}");
+            let errors = [
+                Table::check(kind, &bytes).unwrap_err(),
+                merge(&bytes, &Edits::new(kind)).unwrap_err(),
+                ask(kind, &bytes, "refs/s/z").unwrap_err(),
+            ];
+            for error in errors {
+                assert_eq!((error.number(), error.place(), error.line(), error.text_len()), (6, Some(before.len()), None, 0));
+            }
+            let table = Table::new(kind, &bytes);
+            assert_eq!(table.line_at(before.len()), Some(line));
+            let starts: Vec<usize> = (0..bytes.len() + 2).filter(|place| table.line_at(*place).is_some()).collect();
+            assert_eq!(starts, table.items().unwrap().map(|item| item.unwrap().place).collect::<Vec<_>>());
+        }
+    }
+    // behind a first line that is no header, and that line itself
+    let table = Table::new(IdKind::Sha1, b"# rubbish\nmore\n");
+    assert_eq!([0, 1, 10, 14, 15].map(|place| table.line_at(place)), [Some(1), None, Some(2), None, None]);
+    assert_eq!(Table::new(IdKind::Sha1, b"").line_at(0), None);
 }
 
 /// Whether it stands before the fault or behind it.
@@ -195,7 +292,7 @@ fn a_fault_is_what_the_check_gives() {
 #[test]
 fn a_lookup_tells_a_bad_hit_from_a_miss() {
     let (mut hits, mut misses) = ([0, 0], 0);
-    for Damaged { kind, bytes, place, number } in files() {
+    for Damaged { kind, bytes, place, number, .. } in files() {
         let body = packed_refs::header(&bytes).unwrap().body;
         let said = sys::lookup(kind.number(), &bytes[body..], b"refs/s/b");
         let glance = Table::new(kind, &bytes).glance("refs/s/b").unwrap();
@@ -204,7 +301,11 @@ fn a_lookup_tells_a_bad_hit_from_a_miss() {
             41 | 45 => {
                 assert_eq!((said.number, said.place), (number, place - body), "{shown:?}");
                 let Glance::Unreadable(error) = glance else { panic!("{shown:?}") };
-                assert_eq!((error.number(), error.place_in_file()), (number, Some(place)), "{shown:?}");
+                assert_eq!(
+                    (error.number(), error.place_in_file(), error.line(), error.text_len()),
+                    (number, Some(place), None, 0),
+                    "{shown:?}"
+                );
                 hits[usize::from(number == 45)] += 1;
             }
             4 => {

@@ -40,8 +40,12 @@ fn what_cannot_be_opened_says_why() {
     let open = |path: &str| Opener::new().check(KIND, path).unwrap_err();
     assert!(open(&dir.path("missing")).to_string().contains("missing is not there. Do not send."));
     assert!(open(&dir.path("")).to_string().contains(" can't be read: "));
-    let bad = open(&dir.file("bad", b"x\n"));
-    assert!(matches!(bad.trouble(), OpenTrouble::Refused(error) if error.number() == 41), "{bad}");
+    // what the check gives, with the line and its text
+    let bad = open(&dir.file("bad", format!("{}x\r\n", line('1', "refs/s/a")).as_bytes()));
+    let OpenTrouble::Refused(error) = bad.trouble() else { panic!("{bad}") };
+    assert_eq!((error.number(), error.place(), error.line(), error.text()), (41, Some(50), Some(2), &b"x\r"[..]));
+    let words = "bad: number 41: a record's id can't be read; the record starts at byte 50, on line 2; it reads 'x\\x0d'. Do not send. ";
+    assert!(bad.to_string().contains(words), "{bad}");
     // over the limit, told by the length alone
     let large = File::create(dir.path("large")).unwrap();
     for size in [LARGEST_INPUT as u64 + 1, 100 * LARGEST_INPUT as u64] {

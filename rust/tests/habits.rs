@@ -267,9 +267,9 @@ fn lines_of_json() {
          {{\"answer\":\"listed\",\"status\":0,\"number\":0,\"file\":\"table\",\"records\":2}}\n"
     );
     in_dir(&["list", "table", "--json"]).is(0, &records, "");
-    let report = "{\"answer\":\"no header\",\"number\":2,\"item\":1,\"line\":1,\"byte\":0,\"text\":\"#\\\"\",\"length\":2}\n\
-                  {\"answer\":\"damaged\",\"number\":41,\"item\":3,\"line\":3,\"byte\":53,\"text_hex\":\"ff1b\",\"length\":2}\n\
-                  {\"answer\":\"out of order\",\"number\":6,\"item\":4,\"line\":4,\"byte\":56,\"name\":\"refs/s/a\"}\n\
+    let report = "{\"answer\":\"no header\",\"number\":2,\"line\":1,\"byte\":0,\"text\":\"#\\\"\",\"length\":2}\n\
+                  {\"answer\":\"damaged\",\"number\":41,\"line\":3,\"byte\":53,\"text_hex\":\"ff1b\",\"length\":2}\n\
+                  {\"answer\":\"out of order\",\"number\":6,\"line\":4,\"byte\":56,\"name\":\"refs/s/a\"}\n\
                   {\"answer\":\"total\",\"status\":2,\"file\":\"wild\",\"records\":2,\"damaged\":2,\"unsorted\":1,\"bytes\":106}\n";
     in_dir(&["report", "wild", "--json"]).is(2, report, "");
     // charted in a file that does not pass the check, and a name that breaks a rule
@@ -278,7 +278,7 @@ fn lines_of_json() {
         format!("{{\"answer\":\"charted\",\"status\":0,\"number\":0,\"name\":\"refs/s/a\",\"id\":\"{one}\",\"byte\":0,\"fault\":44}}\n");
     in_dir(&["lookup", "lock", "refs/s/a", "--json"]).is(0, &charted, IN_DAMAGED_FILE);
     let damaged = format!(
-        "{{\"answer\":\"damaged\",\"number\":44,\"item\":2,\"line\":2,\"byte\":50,\"text\":\"{two} refs/s/b.lock\",\"length\":54,\
+        "{{\"answer\":\"damaged\",\"number\":44,\"line\":2,\"byte\":50,\"text\":\"{two} refs/s/b.lock\",\"length\":54,\
          \"rule\":\"a part of it ends with .lock\"}}\n\
          {{\"answer\":\"total\",\"status\":2,\"file\":\"lock\",\"records\":1,\"damaged\":1,\"unsorted\":0,\"bytes\":105}}\n"
     );
@@ -316,7 +316,8 @@ fn lines_of_json() {
     none(&["check", "missing", "--json"], "{\"answer\":\"none\",\"status\":2,\"file\":\"missing\",\"message\":\"missing is not there");
     none(
         &["lookup", "wild", "refs/s/x", "--json"],
-        "{\"answer\":\"none\",\"status\":2,\"number\":2,\"file\":\"wild\",\"name\":\"refs/s/x\",\"line\":1,\"byte\":0,\"message\":\"",
+        "{\"answer\":\"none\",\"status\":2,\"number\":2,\"file\":\"wild\",\"name\":\"refs/s/x\",\"line\":1,\"byte\":0,\"text\":\"#\\\"\",\
+         \"length\":2,\"message\":\"",
     );
     none(
         &["lookup", "table", "x", "--json"],
@@ -328,7 +329,25 @@ fn lines_of_json() {
     );
     none(
         &["list", "wild", "--json"],
-        "{\"answer\":\"none\",\"status\":2,\"number\":2,\"file\":\"wild\",\"line\":1,\"byte\":0,\"message\":\"",
+        "{\"answer\":\"none\",\"status\":2,\"number\":2,\"file\":\"wild\",\"line\":1,\"byte\":0,\"text\":\"#\\\"\",\"length\":2,\"message\":\"",
+    );
+    // of a bad record the line, the place and the text, from each command; of a name out of order no text
+    let bad = |name: &str| {
+        format!(
+            "{{\"answer\":\"none\",\"status\":2,\"number\":44,\"file\":\"lock\",{name}\"line\":2,\"byte\":50,\"text\":\"{two} refs/s/b.lock\",\
+             \"length\":54,\"message\":\"lock, line 2: "
+        )
+    };
+    none(&["check", "lock", "--json"], &bad(""));
+    none(&["merge", "lock", "edits", "-o", "new", "--json"], &bad(""));
+    none(&["lookup", "lock", "refs/s/x", "--json"], &bad("\"name\":\"refs/s/x\","));
+    none(&["list", "lock", "--json"], &bad(""));
+    let listed = in_dir(&["list", "lock", "--json"]);
+    assert_eq!(listed.out.lines().nth(1), damaged.lines().next(), "{listed:?}");
+    dir.file("mixed", format!("{}^{}\n{}", record('2', "refs/s/b"), id('3'), record('1', "refs/s/a")).as_bytes());
+    none(
+        &["check", "mixed", "--json"],
+        "{\"answer\":\"none\",\"status\":2,\"number\":6,\"file\":\"mixed\",\"line\":3,\"byte\":92,\"message\":\"mixed, line 3: number 6: ",
     );
     dir.file("edits", b"\ndelete x\n");
     none(

@@ -14,13 +14,13 @@ macro_rules! layouts {
 fn c_and_rust_lay_out_answers_alike() {
     let layouts = layouts! {
         "header" HeaderReply { number, peeled, sorted, place, text_len }
-        "start" StartReply { number, place, item, text_len }
-        "step" StepReply { number, what, start, next, item, name_at, name_len, peeled_at, why, error, text_len }
-        "check" CheckReply { number, place, count, text_len }
+        "start" StartReply { number, place, line, text_len }
+        "step" StepReply { number, what, start, next, name_at, name_len, peeled_at, why, line, next_line, text_len }
+        "check" CheckReply { number, place, line, count, text_len }
         "lookup" LookupReply { number, place, name_at, name_len, peeled_at }
-        "prefix" PrefixReply { number, place, item, text_at, text_len }
-        "ask" AskReply { number, place, name_at, name_len, peeled_at, text_len, fault }
-        "merge" MergeReply { number, place, length, text_len }
+        "prefix" PrefixReply { number, place, text_at, text_len }
+        "ask" AskReply { number, place, line, name_at, name_len, peeled_at, text_len, fault }
+        "merge" MergeReply { number, place, line, length, text_len }
         "loose" LooseReply { number, what, at, len }
     };
     let mut source = "#include \"packed_refs.h\"\n".to_string();
@@ -57,7 +57,7 @@ fn the_headers_edit_list_is_one() {
     let new = format!("# pack-refs with: peeled fully-peeled sorted \n{} refs/s/a\n{} refs/s/b\n", id("1"), id("4"));
     let (mut index, mut out) = ([7; 2], vec![0; 146]);
     let said = merge(1, old.as_bytes(), &list, &mut index, &mut out);
-    assert_eq!(said, MergeReply { number: 0, place: 0, length: 146, text_len: 0 });
+    assert_eq!(said, MergeReply { number: 0, place: 0, line: 0, length: 146, text_len: 0 });
     assert_eq!((index, String::from_utf8(out).unwrap()), ([10, 0], new));
     // the lengths that the header spells out
     for (len, bytes) in [(8, &[0x08][..]), (127, &[0x7f]), (128, &[0x80, 0x01]), (4096, &[0x80, 0x20])] {

@@ -273,7 +273,7 @@ fn the_kind_is_that_of_the_records() {
     run(&["lookup", &hurt, name]).is(0, &format!("0 charted {name} {} byte 120\n", long_id('1')), IN_DAMAGED_FILE);
     run(&["lookup", &hurt, "refs/a/a"]).is(2, "", "line 2: no answer for 'refs/a/a': number 41: ");
     let report = run(&["report", &hurt]);
-    let line = format!("41 damaged: item 2, byte 46, line 2, a record's id can't be read: {} refs/a/a\n", long_id('?'));
+    let line = format!("41 damaged: line 2, byte 46, a record's id can't be read: {} refs/a/a\n", long_id('?'));
     assert!(report.status == 2 && report.out.starts_with(&line), "{report:?}");
     assert!(report.out.ends_with("\ntotal: 1 record, 1 damaged, 0 out of order, 194 bytes\n"), "{report:?}");
     // behind a line that is no header too

@@ -152,7 +152,7 @@ fn no_advice_makes_a_charted_name_absent() {
             assert!(advice.contains("sent again"), "number {}: {advice}", row.number);
         }
         // whoever is sent to a file with damage is told what must not get lost there, and keeps it as it was
-        if matches!(row.beside, Beside::Record | Beside::FirstLine) {
+        if matches!(row.beside, Beside::Record | Beside::Line | Beside::FirstLine) {
             assert!(advice.contains("sent again") && advice.contains("Copy the file"), "number {}: {advice}", row.number);
         }
         // a line may hold a second one, which must not get lost with it

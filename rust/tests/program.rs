@@ -2,7 +2,7 @@
 mod common;
 
 use common::{id, record, Dir, Ran, HEADER, IN_DAMAGED_FILE};
-use packed_refs::Reason;
+use packed_refs::{Escaped, Reason};
 use std::io::Write;
 use std::process::{Command, Stdio};
 
@@ -55,7 +55,8 @@ fn usage() {
 #[test]
 fn check() {
     run(&["check", NIGHT]).is(0, "0 passed: 28 records\n", "");
-    let words = "damaged, line 15: number 41: a record's id can't be read; the record starts at byte 891. Do not send. Copy the file, ";
+    let words = "damaged, line 15: number 41: a record's id can't be read; the record starts at byte 891; it reads \
+                 '00000000000000000000?00000000000003ed5f2 refs/sent/ward4/o118/e2'. Do not send. Copy the file, ";
     run(&["check", DAMAGED]).is(2, "", words);
 
     let dir = Dir::new();
@@ -145,25 +146,26 @@ fn list() {
 #[test]
 fn report() {
     run(&["report", NIGHT]).is(0, "total: 28 records, 0 damaged, 0 out of order, 1911 bytes\n", "");
-    let line = "41 damaged: item 15, byte 891, line 15, a record's id can't be read: 00000000000000000000?00000000000003ed5f2 refs/sent/ward4/o118/e2\n";
+    let line =
+        "41 damaged: line 15, byte 891, a record's id can't be read: 00000000000000000000?00000000000003ed5f2 refs/sent/ward4/o118/e2\n";
     let todo = |reason: Reason| format!("what to do about {}: {} {}\n", reason.number(), reason.row().sender, reason.row().person);
     let total = "total: 27 records, 1 damaged, 0 out of order, 1911 bytes\n";
     run(&["report", DAMAGED]).is(2, &format!("{line}{}{total}", todo(Reason::BadId)), "");
 
-    // items are counted, and lines beside them; a terminal is not steered
+    // lines as an editor counts them, and all of each; a terminal is not steered
     let dir = Dir::new();
     let tag = format!("{} refs/s/b\n^{}\n", id('1'), id('2'));
     let bytes = [b"#\x1b[2J\r\n", tag.as_bytes(), b"\x1b]0;x\x07\xff\\\r\n", &tag.as_bytes()[..50], b"cut"].concat();
-    let lines = "2 no header: item 1, byte 0, line 1: #\\x1b[2J\n\
-                 41 damaged: item 3, byte 99, line 4, a record's id can't be read: \\x1b]0;x\\x07\\xff\\x5c\\x0d\n\
-                 6 out of order: item 4, byte 109, line 5: refs/s/b\n\
-                 41 damaged: item 5, byte 159, line 6, a record's id can't be read: cu\n";
+    let lines = "2 no header: line 1, byte 0: #\\x1b[2J\n\
+                 41 damaged: line 4, byte 99, a record's id can't be read: \\x1b]0;x\\x07\\xff\\x5c\\x0d\n\
+                 6 out of order: line 5, byte 109: refs/s/b\n\
+                 41 damaged: line 6, byte 159, a record's id can't be read: cut\n";
     // what to do is said once for each number
     let todos = [Reason::NoHeader, Reason::Unsorted, Reason::BadId].map(todo).concat();
     let expected = format!("{lines}{todos}total: 2 records, 3 damaged, 1 out of order, 162 bytes\n");
     run(&["report", &dir.file("wild", &bytes)]).is(2, &expected, "");
     let long = run(&["report", &dir.file("long", &[b'x'; 10_000])]);
-    assert!(long.out.contains("x (and 1807 bytes more)\n"), "{long:?}");
+    assert!(long.out.contains("x (and 1808 bytes more)\n"), "{long:?}");
 }
 
 /// Each command says which part of a record is bad, of a name which rule it breaks, and what can be done.
@@ -185,7 +187,8 @@ fn the_bad_part_is_told() {
         let bytes = format!("{a}{line}{c}");
         let table = dir.file("table", bytes.as_bytes());
         let (number, row) = (reason.number(), reason.row());
-        let wrong = format!("number {number}: {}; the record starts at byte 50{more}", row.meaning);
+        let text = Escaped(line.split('\n').next().unwrap().as_bytes()).to_string();
+        let wrong = format!("number {number}: {}; the record starts at byte 50; it reads '{text}'{more}", row.meaning);
         let todo = format!(". {} {}\n", row.sender, row.person);
         run(&["check", &table]).is(2, "", &format!("table, line 2: {wrong}{todo}"));
         run(&["lookup", &table, "refs/s/b"]).is(2, "", &format!("table, line 2: no answer for 'refs/s/b': {wrong}{todo}"));
@@ -207,9 +210,10 @@ fn the_bad_part_is_told() {
 
         let part = format!("{}{in_report}", row.meaning);
         let readable = format!("refs/s/a {}\nrefs/s/c {}\n", id('1'), id('3'));
-        run(&["list", &table]).is(2, &readable, &format!("not listed: number {number}: {part}; item 2, it starts at byte 50: 2"));
+        let not_listed = format!("table, line 2: not listed: number {number}: {part}; it starts at byte 50: {text}\n");
+        run(&["list", &table]).is(2, &readable, &not_listed);
         let report = run(&["report", &table]);
-        assert!(report.out.starts_with(&format!("{number} damaged: item 2, byte 50, line 2, {part}: 2")), "{report:?}");
+        assert!(report.out.starts_with(&format!("{number} damaged: line 2, byte 50, {part}: {text}\n")), "{report:?}");
         assert!(report.out.contains(&format!("\nwhat to do about {number}: {} {}\n", row.sender, row.person)), "{report:?}");
     }
 }
@@ -235,12 +239,13 @@ fn a_line_that_begins_with_a_caret_may_have_been_a_record() {
     ] {
         let table = dir.file("table", format!("{before}{line}").as_bytes());
         let (at, text) = (before.len(), line.trim_end());
-        let (item, number) = (if before.is_empty() { 1 } else { 2 }, before.lines().count() + 1);
-        let told = format!("41 damaged: item {item}, byte {at}, line {number}, a record's id can't be read ({more}): {text}\n");
+        let number = before.lines().count() + 1;
+        let told = format!("41 damaged: line {number}, byte {at}, a record's id can't be read ({more}): {text}\n");
         let report = run(&["report", &table]);
         assert!(report.status == 2 && report.out.contains(&told), "{told}{report:?}");
-        assert_eq!(report.out.starts_with("45 damaged: item 1, byte 0, line 1, "), before == b, "{report:?}");
-        let told = format!("number 41: a record's id can't be read ({more}); item {item}, it starts at byte {at}: {text}\n");
+        assert_eq!(report.out.starts_with("45 damaged: line 1, byte 0, "), before == b, "{report:?}");
+        let told =
+            format!("table, line {number}: not listed: number 41: a record's id can't be read ({more}); it starts at byte {at}: {text}\n");
         let listed = run(&["list", &table]);
         assert!(listed.status == 2 && listed.err.contains(&told), "{told}{listed:?}");
     }

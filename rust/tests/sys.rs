@@ -47,60 +47,140 @@ fn names() {
 
 #[test]
 fn starts() {
-    assert_eq!(start(1, &old()), StartReply { number: 0, place: 46, item: 2, text_len: 0 });
-    assert_eq!(start(1, b""), StartReply { number: 0, place: 0, item: 1, text_len: 0 });
-    assert_eq!(start(2, b"#\n"), StartReply { number: 2, place: 0, item: 0, text_len: 1 });
-    assert_eq!(start(3, b"").number, 1);
-    assert_eq!(start(1, &too_large()).number, 17);
+    let none = StartReply { number: 0, place: 0, line: 0, text_len: 0 };
+    assert_eq!(start(1, &old()), StartReply { place: 46, line: 2, ..none });
+    assert_eq!(start(1, b""), StartReply { line: 1, ..none });
+    assert_eq!(start(2, b"#\n"), StartReply { number: 2, text_len: 1, ..none });
+    assert_eq!(start(3, b""), StartReply { number: 1, ..none });
+    assert_eq!(start(1, &too_large()), StartReply { number: 17, ..none });
 }
 
+/// Everything 0: what a step gives that refuses.
+const NOTHING: StepReply =
+    StepReply { number: 0, what: 0, start: 0, next: 0, name_at: 0, name_len: 0, peeled_at: 0, why: 0, line: 0, next_line: 0, text_len: 0 };
+
+/// The record of `old` that has a `^` line, and `rubbish` behind it, which is line 5.
 #[test]
 fn steps() {
     let file = [&old()[..], b"rubbish\n"].concat();
-    let good = StepReply {
-        number: 0,
-        what: 1,
-        start: 96,
-        next: 188,
-        item: 8,
-        name_at: 137,
-        name_len: 8,
-        peeled_at: 147,
-        why: 0,
-        error: 0,
-        text_len: 0,
-    };
-    assert_eq!(step(1, &file, 96, 7), good);
-    assert_eq!(step_prefix(1, &file, b"refs/s/c", 96, 7), good);
-    assert_eq!(step(1, &file, 46, 2).peeled_at, 0);
+    let good = StepReply { what: 1, start: 96, next: 188, name_at: 137, name_len: 8, peeled_at: 147, ..NOTHING };
+    assert_eq!(step(1, &file, 96), good);
+    assert_eq!(walk(1, &file, 96, 7), StepReply { next_line: 9, ..good });
+    assert_eq!(step_prefix(1, &file, b"refs/s/c", 96), good);
+    assert_eq!(step_prefix(1, &file, b"", 96), good);
+    assert_eq!(step(1, &file, 46).peeled_at, 0);
+    assert_eq!(walk(1, &file, 46, 7).next_line, 8);
 
-    let nothing = StepReply { what: 0, start: 0, name_at: 0, name_len: 0, peeled_at: 0, ..good };
-    let error = StepReply { what: 2, start: 188, next: 196, item: 10, why: 41, error: 9, text_len: 7, ..nothing };
-    assert_eq!(step(1, &file, 188, 9), error);
-    assert_eq!(step_prefix(1, &file, b"anything", 188, 9), error);
+    // counted, as it was given, and none
+    let error = StepReply { what: 2, start: 188, next: 196, why: 41, text_len: 7, ..NOTHING };
+    assert_eq!(step(1, &file, 188), StepReply { line: 5, ..error });
+    assert_eq!(walk(1, &file, 188, 9), StepReply { line: 9, next_line: 10, ..error });
+    assert_eq!(step_prefix(1, &file, b"anything", 188), error);
+    assert_eq!(step_prefix(1, &file, b"", 188), error);
 
-    let end = StepReply { next: 196, item: 10, ..nothing };
-    assert_eq!(step(1, &file, 196, 10), end);
-    assert_eq!(step(1, &file, usize::MAX, 10), end);
-    assert_eq!(step_prefix(1, &file, b"refs/s/d", 96, 10), end);
+    let end = StepReply { next: 196, ..NOTHING };
+    assert_eq!(step(1, &file, 196), end);
+    assert_eq!(step(1, &file, usize::MAX), end);
+    assert_eq!(step_prefix(1, &file, b"refs/s/d", 96), end);
+    // at an end the line is as it came
+    for line in [0, 1, 10, u64::MAX] {
+        assert_eq!(walk(1, &file, 196, line), StepReply { next_line: line, ..end });
+        assert_eq!(walk(1, &file, usize::MAX, line), StepReply { next_line: line, ..end });
+    }
 
-    // the largest number stays
-    assert_eq!(step(1, b"x\n", 0, u64::MAX).item, u64::MAX);
-    assert_eq!(step(1, b"x\n", 0, u64::MAX).error, u64::MAX);
-    assert_eq!(step(0, b"x\n", 0, 1), StepReply { number: 1, next: 0, item: 0, ..nothing });
-    assert_eq!(step_prefix(9, b"x\n", b"", 0, 1).number, 1);
-    assert_eq!(step_prefix(1, b"x\n", &too_large(), 0, 1).number, 17);
+    assert_eq!(step(0, b"x\n", 0), StepReply { number: 1, ..NOTHING });
+    assert_eq!(walk(3, b"x\n", 0, 1), StepReply { number: 1, ..NOTHING });
+    assert_eq!(step_prefix(9, b"x\n", b"", 0), StepReply { number: 1, ..NOTHING });
+    assert_eq!(step(1, &too_large(), 0), StepReply { number: 17, ..NOTHING });
+    assert_eq!(walk(2, &too_large(), 0, 1), StepReply { number: 17, ..NOTHING });
+    assert_eq!(step_prefix(1, b"x\n", &too_large(), 0), StepReply { number: 17, ..NOTHING });
+}
+
+/// The plain step tells the true line whatever the place, and the text from there on: within a line, a `^` line or a header too. The walk believes the line that
+/// it is given.
+#[test]
+fn a_step_within_a_line() {
+    let file = [&old()[..], b"rubbish\r\n\nla\0st"].concat();
+    for (place, line, text) in [
+        (0, 1, &HEADER[..45]),
+        (45, 1, b""),
+        (95, 2, b""),
+        (99, 3, &[&[b'2'; 37][..], b" refs/s/c"].concat()),
+        (146, 4, &[&b"^"[..], &[b'3'; 40]].concat()),
+        (186, 4, b"3"),
+        (188, 5, b"rubbish\r"),
+        (191, 5, b"bish\r"),
+        (195, 5, b"\r"),
+        (196, 5, b""),
+        (197, 6, b""),
+        (198, 7, b"la\0st"),
+        (202, 7, b"t"),
+    ] {
+        let next = (place + text.len() + 1).min(file.len());
+        let error = StepReply { what: 2, start: place, next, why: 41, line, text_len: text.len(), ..NOTHING };
+        assert_eq!(step(1, &file, place), error, "at {place}");
+        assert_eq!(&file[place..place + text.len()], text, "at {place}");
+        let next_line = 70 + u64::from(file[next - 1] == b'\n');
+        assert_eq!(walk(1, &file, place, 70), StepReply { line: 70, next_line, ..error }, "at {place}");
+        assert_eq!(step_prefix(1, &file, b"", place), StepReply { line: 0, ..error }, "at {place}");
+    }
+}
+
+/// From the start's place and line the walk hands on lines to the end, and tells the line that the plain step counts. The largest number stays.
+#[test]
+fn a_walk_hands_on_lines() {
+    let body = [&record(b'1', "refs/s/a", Some(b'2'))[..], b"x\n", &record(b'1', "refs/s/b", None), b"^y\r\n", b"\n", b"cut"].concat();
+    for header in [&b""[..], HEADER] {
+        let file = [header, &body].concat();
+        let begun = start(1, &file);
+        let (mut place, mut line, mut told) = (begun.place, begun.line, Vec::new());
+        loop {
+            let (walked, stepped) = (walk(1, &file, place, line), step(1, &file, place));
+            assert_eq!(StepReply { next_line: 0, ..walked }, stepped, "at {place}");
+            (place, line) = (walked.next, walked.next_line);
+            match walked.what {
+                0 => break,
+                1 => assert_eq!(walked.line, 0),
+                _ => told.push((walked.line, walked.why, walked.text_len)),
+            }
+        }
+        let before = u64::from(!header.is_empty());
+        // the line of refs/s/b, whose ^ line is bad, and that line itself
+        let expected = [(3, 41, 1), (4, 45, 49), (5, 41, 3), (6, 41, 0), (7, 41, 3)].map(|(line, why, len)| (line + before, why, len));
+        assert_eq!(told, expected);
+        assert_eq!((place, line), (file.len(), 7 + before));
+    }
+
+    let peeled = record(b'1', "refs/s/a", Some(b'2'));
+    for (bytes, line, next_line) in [
+        (&b"x\n"[..], u64::MAX - 1, u64::MAX),
+        (b"x\n", u64::MAX, u64::MAX),
+        (b"x", u64::MAX, u64::MAX),
+        (b"x", 5, 5),
+        (b"x\n", 0, 1),
+        (&peeled, u64::MAX - 2, u64::MAX),
+        (&peeled, u64::MAX - 1, u64::MAX),
+        (&peeled, u64::MAX, u64::MAX),
+        (&peeled[..50], u64::MAX, u64::MAX),
+    ] {
+        let said = walk(1, bytes, 0, line);
+        assert_eq!((said.next_line, said.line), (next_line, if said.what == 2 { line } else { 0 }), "{line}");
+    }
 }
 
 #[test]
 fn checks() {
-    assert_eq!(check(1, &old()), CheckReply { number: 0, place: 0, count: 2, text_len: 0 });
-    assert_eq!(check(1, b"# no header"), CheckReply { number: 2, place: 0, count: 0, text_len: 11 });
-    assert_eq!(check(1, &[&old()[..], b"x\n"].concat()), CheckReply { number: 41, place: 188, count: 0, text_len: 0 });
+    let none = CheckReply { number: 0, place: 0, line: 0, count: 0, text_len: 0 };
+    assert_eq!(check(1, &old()), CheckReply { count: 2, ..none });
+    assert_eq!(check(1, b"# no header"), CheckReply { number: 2, text_len: 11, ..none });
+    // behind a header and a ^ line
+    assert_eq!(check(1, &[&old()[..], b"xyz\r\n"].concat()), CheckReply { number: 41, place: 188, line: 5, text_len: 4, ..none });
+    assert_eq!(check(1, &[&old()[..], b"xyz"].concat()), CheckReply { number: 41, place: 188, line: 5, text_len: 3, ..none });
+    assert_eq!(check(1, b"\n"), CheckReply { number: 41, line: 1, ..none });
     let twice = [record(b'1', "refs/s/a", None), record(b'1', "refs/s/a", None)].concat();
-    assert_eq!(check(1, &twice), CheckReply { number: 6, place: 50, count: 0, text_len: 0 });
-    assert_eq!(check(7, b"").number, 1);
-    assert_eq!(check(2, &too_large()).number, 17);
+    assert_eq!(check(1, &twice), CheckReply { number: 6, place: 50, ..none });
+    assert_eq!(check(7, b""), CheckReply { number: 1, ..none });
+    assert_eq!(check(2, &too_large()), CheckReply { number: 17, ..none });
     assert_eq!(check(2, &[&[b'a'; 64][..], b" refs/s/a\n"].concat()).count, 1);
 }
 
@@ -133,10 +213,10 @@ fn lookups() {
 #[test]
 fn prefixes() {
     let file = old();
-    assert_eq!(prefix(1, &file[46..], b"refs/s/b"), PrefixReply { number: 0, place: 50, item: 1, text_at: 0, text_len: 0 });
+    assert_eq!(prefix(1, &file[46..], b"refs/s/b"), PrefixReply { number: 0, place: 50, text_at: 0, text_len: 0 });
     // a probe whose shape fails counts as the empty name, so the empty prefix is hit there
     let hash = [&record(b'1', "refs/s/a", None)[..], b"#x\n", &record(b'2', "refs/s/c", None)].concat();
-    assert_eq!(prefix(1, &hash, b""), PrefixReply { number: 2, place: 0, item: 0, text_at: 50, text_len: 2 });
+    assert_eq!(prefix(1, &hash, b""), PrefixReply { number: 2, place: 0, text_at: 50, text_len: 2 });
     assert_eq!(prefix(0, b"", b"").number, 1);
     assert_eq!(prefix(1, b"", &too_large()).number, 17);
 }
@@ -144,14 +224,16 @@ fn prefixes() {
 #[test]
 fn asks() {
     let file = old();
-    let hit = AskReply { number: 0, place: 96, name_at: 137, name_len: 8, peeled_at: 147, text_len: 0, fault: 0 };
+    let hit = AskReply { number: 0, place: 96, line: 0, name_at: 137, name_len: 8, peeled_at: 147, text_len: 0, fault: 0 };
     assert_eq!(ask(1, &file, b"refs/s/c"), hit);
     assert_eq!(ask(1, &[&file[..], b"x\n"].concat(), b"refs/s/c"), AskReply { fault: 41, ..hit });
-    let none = AskReply { number: 5, place: 0, name_at: 0, name_len: 0, peeled_at: 0, text_len: 0, fault: 0 };
+    let none = AskReply { number: 5, place: 0, line: 0, name_at: 0, name_len: 0, peeled_at: 0, text_len: 0, fault: 0 };
     assert_eq!(ask(1, &file, b"refs/s/b"), none);
     assert_eq!(ask(1, &file, b"refs"), AskReply { number: 3, ..none });
     assert_eq!(ask(1, b"#\n", b"refs/s/b"), AskReply { number: 2, text_len: 1, ..none });
-    assert_eq!(ask(1, &[&file[..], b"x\n"].concat(), b"refs/s/b"), AskReply { number: 41, place: 188, ..none });
+    let bad = AskReply { number: 41, place: 188, line: 5, ..none };
+    assert_eq!(ask(1, &[&file[..], b"xyz\r\n"].concat(), b"refs/s/b"), AskReply { text_len: 4, ..bad });
+    assert_eq!(ask(1, &[&file[..], b"xyz"].concat(), b"refs/s/b"), AskReply { text_len: 3, ..bad });
     let twice = [&file[..], &record(b'1', "refs/s/a", None)].concat();
     assert_eq!(ask(1, &twice, b"refs/s/c"), AskReply { fault: 6, ..hit });
     assert_eq!(ask(1, &twice, b"refs/s/b"), AskReply { number: 6, place: 188, ..none });
@@ -162,7 +244,7 @@ fn asks() {
 #[test]
 fn merges() {
     let new = [HEADER, &record(b'1', "refs/s/a", None), &record(b'4', "refs/s/b", None)].concat();
-    let none = MergeReply { number: 0, place: 0, length: 0, text_len: 0 };
+    let none = MergeReply { number: 0, place: 0, line: 0, length: 0, text_len: 0 };
 
     let (mut index, mut out) = ([9; 3], [b'z'; 150]);
     assert_eq!(merge(1, &old(), &edits(), &mut index, &mut out), MergeReply { length: 146, ..none });
@@ -176,7 +258,9 @@ fn merges() {
 
     let run = |old: &[u8], list: &[u8], index: usize| merge(1, old, list, &mut vec![0; index], &mut [0; 500]);
     assert_eq!(run(b"#\n", b"", 0), MergeReply { number: 2, text_len: 1, ..none });
-    assert_eq!(run(&[&old()[..], b"x\n"].concat(), b"", 0), MergeReply { number: 41, place: 188, ..none });
+    let bad = MergeReply { number: 41, place: 188, line: 5, ..none };
+    assert_eq!(run(&[&old()[..], b"xyz\r\n"].concat(), b"", 0), MergeReply { text_len: 4, ..bad });
+    assert_eq!(run(&[&old()[..], b"xyz"].concat(), b"", 0), MergeReply { text_len: 3, ..bad });
     let twice = [record(b'1', "refs/s/a", None), record(b'1', "refs/s/a", None)].concat();
     assert_eq!(run(&twice, b"", 0), MergeReply { number: 6, place: 50, ..none });
     assert_eq!(run(b"", b"\x00\x03a/b\x03", 9), MergeReply { number: 7, place: 5, ..none });

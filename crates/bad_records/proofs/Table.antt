@@ -11,7 +11,7 @@ use Rattle.decode.specs.Record.{recordOf}
 use Rattle.probe.specs.Shape.{shapeOf}
 use Rattle.probe.specs.RecordStart.{recordStart}
 use Rattle.iter.specs.Items.{sizeOf, itemsBehind, items}
-use Rattle.iter.specs.Step.{more, stepOf, stepAnswer}
+use Rattle.iter.specs.Step.{stepOf, stepAnswer}
 use Rattle.checks.specs.Check.{judgeBody, checkOf, checkAnswer}
 use Rattle.search.specs.Search.{probedOf, halve, searchOf}
 use Rattle.find.specs.Lookup.{lookupOf, lookupAnswer}
@@ -26,7 +26,7 @@ use Rattle.merge.specs.Merge.{newFile, finished, oldEntries, judged, editsInOrd
 use Rattle.bad_records.specs.Table.{EveryRow}
 
 pub every-row : EveryRow
-unfolding more stepOf stepAnswer isHex isForbidden isLineEnd byteAt idAt eol newlineAt textAt validName headerOf recordOf shapeOf recordStart sizeOf itemsBehind items judgeBody checkOf checkAnswer
+unfolding stepOf stepAnswer isHex isForbidden isLineEnd byteAt idAt eol newlineAt textAt validName headerOf recordOf shapeOf recordStart sizeOf itemsBehind items judgeBody checkOf checkAnswer
     probedOf halve searchOf lookupOf lookupAnswer soughtFrom askBody askOf askAnswer admission digitsOf overLimit lengthAt
     editOf namedEdit behindName editName sorted firstTwin editsFrom editsOf twinsOf preparedOf newFile finished oldEntries judged editsInOrder mergeOf mergeAnswer
 every-row = refl

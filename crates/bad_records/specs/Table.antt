@@ -5,7 +5,7 @@ use mathlib.Core.Path.{_≡_}
 use mathlib.Core.List.{List, [], _∷_, _++_, map}
 use Prim.Native.Nat.{ℕ}
 use lib.ListN.{replicate}
-use Rattle.iter.specs.Step.{stepAnswer}
+use Rattle.iter.specs.Step.{plainAnswer}
 use Rattle.checks.specs.Check.{checkAnswer, checkNumber}
 use Rattle.find.specs.Lookup.{lookupAnswer, lookupNumber}
 use Rattle.ask.specs.Ask.{askAnswer, askNumber}
@@ -59,7 +59,7 @@ abbrev pub computed : List ℕ → Row
 computed file =
     record {
       file = file;
-      step = stepReply 1 0 (stepAnswer 1 [] file 0 1) .why;
+      step = stepReply 1 0 (plainAnswer 1 file 0) .why;
       check = checkNumber (checkAnswer 1 file);
       merge = mergeNumber (mergeAnswer 1 file (1 ∷ 8 ∷ (name 98 ++ replicate 20 119)) 1 300);
       ask = askNumber (askAnswer 1 file (name 98));

@@ -1,6 +1,6 @@
 -- Items, records, line ends and the check: document 01's worked examples, and the verdicts on them. Kind 1, ids of 40 digits.
 use mathlib.Core.List.{List, [], _∷_, _++_}
-use mathlib.Core.Option.{none}
+use mathlib.Core.Option.{none, some}
 use Prim.Native.Nat.{ℕ}
 use lib.ListN.{replicate}
 use Rattle.class.specs.Class.{paper}
@@ -43,10 +43,12 @@ abbrev pub cases : List Case
 cases =
     -- empty bytes: no items, and no records
     record { bytes = []; out = []; verdict = Clean 0 }
-    -- an error's text is its bytes less the last one: `x` of `x` LF, nothing of `x` alone
+    -- document 01: "`x` LF: error 1, text `x`. `x` alone: error 1, empty text." With document 02 the number is the line's, and the last line loses no byte:
+    -- `x` LF: an error on line 1, text `x`. `x` alone: an error on line 1, text `x`
     ∷ record { bytes = 120 ∷ 10 ∷ []; out = error 1 (120 ∷ []) ∷ []; verdict = Refused (BadRecord 0 Id) }
-    ∷ record { bytes = 120 ∷ []; out = error 1 [] ∷ []; verdict = Refused (BadRecord 0 Id) }
-    -- a second line that can't be read makes the record bad, and each line is an error of its own
+    ∷ record { bytes = 120 ∷ []; out = error 1 (120 ∷ []) ∷ []; verdict = Refused (BadRecord 0 Id) }
+    -- document 01: "`1* refs/s/a` LF `^zz` LF: error 1 `1* refs/s/a`, error 2 `^zz`." With document 02: an error on line 1, `1* refs/s/a`, and one on line 2, `^zz`.
+    -- A second line that can't be read makes the record bad, and each line is an error of its own
     ∷ record {
       bytes = line (10 ∷ 94 ∷ 122 ∷ 122 ∷ 10 ∷ []);
       out = error 1 (line []) ∷ error 2 (94 ∷ 122 ∷ 122 ∷ []) ∷ [];
@@ -55,5 +57,11 @@ cases =
     -- CR LF ends a line; a bare CR does not, and the end of the bytes does not
     ∷ record { bytes = line (13 ∷ 10 ∷ []); out = good (record { name = refsS ++ 97 ∷ []; id = ones; peeled = none }) ∷ []; verdict = Clean 1 }
     ∷ record { bytes = line (13 ∷ 98 ∷ 10 ∷ []); out = error 1 (line (13 ∷ 98 ∷ [])) ∷ []; verdict = Refused (BadRecord 0 LineEnd) }
-    ∷ record { bytes = line []; out = error 1 (ones ++ 32 ∷ refsS) ∷ []; verdict = Refused (BadRecord 0 LineEnd) }
+    ∷ record { bytes = line []; out = error 1 (line []) ∷ []; verdict = Refused (BadRecord 0 LineEnd) }
+    -- lines are counted, not items: behind a record of two lines stands line 3
+    ∷ record {
+      bytes = line (10 ∷ 94 ∷ (ones ++ 10 ∷ 120 ∷ []));
+      out = good (record { name = refsS ++ 97 ∷ []; id = ones; peeled = some ones }) ∷ error 3 (120 ∷ []) ∷ [];
+      verdict = Refused (BadRecord 92 Id);
+    }
     ∷ []

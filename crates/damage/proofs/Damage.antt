@@ -2,6 +2,7 @@
 use mathlib.Core.Path.{_≡_, refl, sym, ap, _∙_}
 use mathlib.Core.Bool.{true, false}
 use mathlib.Core.List.{List, [], _∷_, _++_, append-assoc}
+use mathlib.Core.Option.{Option, some}
 use Prim.Native.Nat.{ℕ, suc, _+_, _≤_, _<_}
 use native.Mathlib.Omega.{arith}
 use lib.ListN.{getD, length, take, drop, length-append, length-drop}
@@ -12,7 +13,7 @@ use Rattle.parse.specs.declared.limit.Admission.the-variants.{Digits}
 use Rattle.parse.specs.Limit.{digitsOf, overLimit, admission}
 use Rattle.parse.specs.Line.{lineLen}
 use Rattle.parse.specs.Run.{span}
-use Rattle.parse.proofs.Admitted.{admits}
+use Rattle.parse.proofs.Admitted.{admits, admitted as within}
 use Rattle.parse.proofs.Fronts.{at-drop, lineLen-le}
 use Rattle.header.specs.declared.Header.{Header}
 use Rattle.header.specs.declared.Opened.the-variants as opened
@@ -21,15 +22,16 @@ use Rattle.decode.specs.declared.reference.Fault.{Fault}
 use Rattle.decode.specs.declared.reference.Reading.the-variants.{Bad}
 use Rattle.decode.specs.Record.{recordOf}
 use Rattle.decode.proofs.Records.{View, is-bad, plain, peeled, view}
-use Rattle.start.specs.Start.{firstItem, startAnswer}
+use Rattle.start.specs.Start.{startLine, startAnswer}
 use Rattle.iter.specs.Items.{Item, sizeOf, items, bytesOf}
 use Rattle.iter.specs.Step.{stepAnswer}
 use Rattle.iter.proofs.Items.{items-step, tile}
 use Rattle.handed.specs.Handed.{Given, error, handed, whats}
 use Rattle.handed.specs.Iteration.{saidEnd, readOf, outOf, stopOf}
 use Rattle.handed.specs.Lines.{Each}
-use Rattle.handed.specs.Hands.{raised}
+use Rattle.handed.specs.Hands.{lineAfter}
 use Rattle.handed.proofs.Lines.{read-from-lines}
+use Rattle.handed.proofs.TrueLines.{true-lines}
 use Rattle.handed.proofs.Iterations.{reads-file}
 use Rattle.checks.specs.declared.Verdict.the-variants.{Clean}
 use Rattle.checks.specs.Check.{checkOf}
@@ -114,15 +116,15 @@ module _ (n : ℕ) (pos : 0 < n) where
     body-is : drop (h .body) (whole header kept x rest) ≡ kept ++ (x ++ rest)
     body-is = drop-at header (kept ++ (x ++ rest)) (h .body) (sym at)
 
-    out-is : handedOut n (whole header kept x rest) ≡ handed n (length header) (firstItem (whole header kept x rest)) (items paper n (kept ++ (x ++ rest)))
+    out-is : handedOut n (whole header kept x rest) ≡ handed n (length header) (some (startLine (whole header kept x rest))) (items paper n (kept ++ (x ++ rest)))
     out-is =
         ap outOf (reads-file paper n (whole header kept x rest) .all h reads)
-        ∙ ap (λ (s : List ℕ). handed n (h .body) (firstItem (whole header kept x rest)) (items paper n s)) body-is
-        ∙ ap (λ (p : ℕ). handed n p (firstItem (whole header kept x rest)) (items paper n (kept ++ (x ++ rest)))) at
+        ∙ ap (λ (s : List ℕ). handed n (h .body) (some (startLine (whole header kept x rest))) (items paper n s)) body-is
+        ∙ ap (λ (p : ℕ). handed n p (some (startLine (whole header kept x rest))) (items paper n (kept ++ (x ++ rest)))) at
 
-    ends-at : (last : ℕ) × (stopOf (readOf paper n (whole header kept x rest)) ≡ saidEnd (length (whole header kept x rest)) last)
+    ends-at : (last : Option ℕ) × (stopOf (readOf paper n (whole header kept x rest)) ≡ saidEnd (length (whole header kept x rest)) last)
     ends-at = (
-      raised (firstItem (whole header kept x rest)) (items paper n (drop (h .body) (whole header kept x rest))),
+      lineAfter (some (startLine (whole header kept x rest))) (items paper n (drop (h .body) (whole header kept x rest))),
       ap stopOf (reads-file paper n (whole header kept x rest) .all h reads),
     )
 
@@ -130,30 +132,30 @@ module _ (n : ℕ) (pos : 0 < n) where
 
   module _
       (header kept run other : List ℕ)
-      (item : ℕ)
+      (line : Option ℕ)
     where
       abbrev out : List ℕ → List ℕ → List Given
-      out x rest = handed n (length header) item (items paper n (kept ++ (x ++ rest)))
+      out x rest = handed n (length header) line (items paper n (kept ++ (x ++ rest)))
 
       -- what ends before the run
       module _ (rest : List ℕ) (good : allGood (items paper n (kept ++ (run ++ rest))) ≡ true) where
         abbrev ahead : List Item
         ahead = endBefore (length kept) (items paper n (kept ++ (run ++ rest)))
 
-        ahead-is : endingBefore (length (header ++ kept)) (out run rest) ≡ handed n (length header) item ahead
-        ahead-is = rw (length-append header kept) (ending n (length kept) (length header) item (items paper n (kept ++ (run ++ rest))))
+        ahead-is : endingBefore (length (header ++ kept)) (out run rest) ≡ handed n (length header) line ahead
+        ahead-is = rw (length-append header kept) (ending n (length kept) (length header) line (items paper n (kept ++ (run ++ rest))))
 
         record Split : Type 0 where
           others : List Item
           place : ℕ
-          counted : ℕ
-          is : out other rest ≡ handed n (length header) item ahead ++ handed n place counted others
+          counted : Option ℕ
+          is : out other rest ≡ handed n (length header) line ahead ++ handed n place counted others
 
         split : Split
         split =
             let (others, e) = front paper n (run ++ rest) (other ++ rest) kept good in
-            let j = joined n (length header) item ahead others in
-            record { others = others; place = j .place; counted = j .counted; is = ap (handed n (length header) item) e ∙ j .is }
+            let j = joined n (length header) line ahead others in
+            record { others = others; place = j .place; counted = j .counted; is = ap (handed n (length header) line) e ∙ j .is }
 
       -- what begins behind a line feed
       module _ (a c : List ℕ) (good : allGood (items paper n (kept ++ (run ++ (a ++ 10 ∷ c)))) ≡ true) where
@@ -163,8 +165,8 @@ module _ (n : ℕ) (pos : 0 < n) where
         abbrev behind-it : List ℕ → ℕ
         behind-it x = suc (length (header ++ (kept ++ (x ++ a))))
 
-        begins : (x : List ℕ) → Begun n (suc (length (kept ++ (x ++ a)))) (length header) item (items paper n (kept ++ (x ++ rest)))
-        begins x = begun n (suc (length (kept ++ (x ++ a)))) (length header) item (items paper n (kept ++ (x ++ rest)))
+        begins : (x : List ℕ) → Begun n (suc (length (kept ++ (x ++ a)))) (length header) line (items paper n (kept ++ (x ++ rest)))
+        begins x = begun n (suc (length (kept ++ (x ++ a)))) (length header) line (items paper n (kept ++ (x ++ rest)))
 
         begins-is : (x : List ℕ) → beginningFrom (behind-it x) (out x rest) ≡ handed n (begins x .place) (begins x .counted) (from kept run other a c good x)
         begins-is x =
@@ -222,14 +224,14 @@ module _ (n : ℕ) (pos : 0 < n) where
             × (out other rest ≡ endingBefore (length (header ++ kept)) (out run rest) ++ (between ++ beginningFrom (behind-it other) (out other rest)))
         in-order =
             let s = split rest good in
-            let first = handed n (length header) item (ahead rest good) in
+            let first = handed n (length header) line (ahead rest good) in
             let last = handed n (s .place) (s .counted) (s .others) in
             let (between, e) = cut-from n (behind-it other) (s .place) (s .counted) (s .others) in
             let short = end-bytes (length kept) (items paper n (kept ++ (run ++ rest))) in
             let b : beginningFrom (behind-it other) (out other rest) ≡ beginningFrom (behind-it other) last =
             ap (beginningFrom (behind-it other)) (s .is) ∙ beginning-append n (behind-it other) first last
             ∙ ap (λ (l : List Given). l ++ beginningFrom (behind-it other) last)
-            (none-from n (behind-it other) (length header) item (ahead rest good)
+            (none-from n (behind-it other) (length header) line (ahead rest good)
             (omega (arith, length-append header (kept ++ (other ++ a)), length-append kept (other ++ a)))) in
             (between, s .is ∙ rw (ahead-is rest good, b) (ap (λ (l : List Given). first ++ l) e))
 
@@ -262,18 +264,18 @@ module _ (kind n : ℕ) (d : digitsOf kind ≡ kinds.Digits n) (header left run 
   good : allGood (items paper n (left ++ (run ++ rest))) ≡ true
   good = rw (body-is n pos header left rest run (r .head) opens (r .behind)) at (checked-good n file opens (passed kind n d file (r .count) (r .passes) .0))
 
-  out-before : handedOut n file ≡ out n pos header left run other (firstItem file) run rest
+  out-before : handedOut n file ≡ out n pos header left run other (some (startLine file)) run rest
   out-before = out-is n pos header left rest run (r .head) opens (r .behind)
 
-  out-after : handedOut n damaged ≡ out n pos header left run other (firstItem file) other rest
+  out-after : handedOut n damaged ≡ out n pos header left run other (some (startLine file)) other rest
   out-after =
       out-is n pos header left rest other (r .head) opens′ (r .behind)
-      ∙ ap (λ (k : ℕ). handed n (length header) k (items paper n (left ++ (other ++ rest))))
+      ∙ ap (λ (k : ℕ). handed n (length header) (some k) (items paper n (left ++ (other ++ rest))))
       (number-kept paper header (left ++ (run ++ rest)) (left ++ (other ++ rest)) (r .head) opens (r .behind) (r .no-hash))
 
   behind-feed : (a c : List ℕ) → rest ≡ a ++ 10 ∷ c → Behind n header left run other a c
   behind-feed a c e =
-      let k = firstItem (whole header left run (a ++ 10 ∷ c)) in
+      let k = some (startLine (whole header left run (a ++ 10 ∷ c))) in
       let was : handedOut n (whole header left run (a ++ 10 ∷ c)) ≡ out n pos header left run other k run (a ++ 10 ∷ c) = rw e at out-before in
       let is : handedOut n (whole header left other (a ++ 10 ∷ c)) ≡ out n pos header left run other k other (a ++ 10 ∷ c) = rw e at out-after in
       let fine : allGood (items paper n (left ++ (run ++ (a ++ 10 ∷ c)))) ≡ true = rw e at good in
@@ -287,7 +289,7 @@ module _ (kind n : ℕ) (d : digitsOf kind ≡ kinds.Digits n) (header left run 
   pub kept : Kept kind n header left run other rest
   unfolding startAnswer stepAnswer
   kept =
-      let s = split n pos header left run other (firstItem file) rest good in
+      let s = split n pos header left run other (some (startLine file)) rest good in
       record {
         starts = rw admitted;
         steps = λ place k. rw admitted;
@@ -296,9 +298,10 @@ module _ (kind n : ℕ) (d : digitsOf kind ≡ kinds.Digits n) (header left run 
         end = ends-at n pos header left rest other (r .head) opens′ (r .behind) .1;
         all-records = rw out-before (records-alike n _ _ _ _ (items paper n (left ++ (run ++ rest))) good);
         others = handed n (s .place) (s .counted) (s .others);
-        in-front = out-after ∙ s .is ∙ rw (out-before, ahead-is n pos header left run other (firstItem file) rest good);
+        in-front = out-after ∙ s .is ∙ rw (out-before, ahead-is n pos header left run other (some (startLine file)) rest good);
         behind = behind-feed;
         parts = read-from-lines n damaged;
+        lines = true-lines n damaged (within kind (length damaged) 0 n admitted .1);
       }
 
 pub demand-3 : Demand3

@@ -17,7 +17,7 @@ use Rattle.header.specs.declared.Header.{Header}
 use Rattle.header.specs.declared.Opened.the-variants as opened
 use Rattle.header.specs.Header.{mark, tokens, allNoted, plainHeader, headerOf}
 use Rattle.header.proofs.Headers.{no-hash, header-read, all-noted-body, HeaderView, none, unreadable, some, header-view}
-use Rattle.start.specs.Start.{firstItem, startOf}
+use Rattle.start.specs.Start.{startLine, startOf}
 use Rattle.damage.proofs.TextKept.{ends, text-local}
 
 begins-local : (w u r r′ : List ℕ) → length w ≤ length u → begins w (u ++ r) ≡ true → begins w (u ++ r′) ≡ true
@@ -40,11 +40,11 @@ module _
     (behind : head .body ≡ length h)
     (hash : h ≡ [] → getD (h ++ b′) 0 0 ≡ 35 → ⊥)
   where
-    kept : (headerOf byte (h ++ b′) ≡ opened.Header head) × (firstItem (h ++ b′) ≡ firstItem (h ++ b))
-    unfolding firstItem
+    kept : (headerOf byte (h ++ b′) ≡ opened.Header head) × (startLine (h ++ b′) ≡ startLine (h ++ b))
+    unfolding startLine
     kept = go (header-view byte (h ++ b))
       where
-        go : HeaderView byte (h ++ b) → (headerOf byte (h ++ b′) ≡ opened.Header head) × (firstItem (h ++ b′) ≡ firstItem (h ++ b))
+        go : HeaderView byte (h ++ b) → (headerOf byte (h ++ b′) ≡ opened.Header head) × (startLine (h ++ b′) ≡ startLine (h ++ b))
         go (none c f) =
             let e : head ≡ plainHeader 0 = cc in
             let z : head .body ≡ 0 = ap (λ (x : Header). x .body) e in
@@ -66,7 +66,7 @@ module _
     pub header-kept : headerOf byte (h ++ b′) ≡ opened.Header head
     header-kept = kept .0
 
-    pub number-kept : firstItem (h ++ b′) ≡ firstItem (h ++ b)
+    pub number-kept : startLine (h ++ b′) ≡ startLine (h ++ b)
     number-kept = kept .1
 
     pub start-kept : startOf byte (h ++ b′) ≡ startOf byte (h ++ b)

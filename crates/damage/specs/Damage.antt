@@ -2,6 +2,7 @@
 use mathlib.Core.Path.{_≡_}
 use mathlib.Core.Bool.{false}
 use mathlib.Core.List.{List, [], _∷_, _++_}
+use mathlib.Core.Option.{Option}
 use Prim.Native.Nat.{ℕ, suc, _+_, _≤_}
 use lib.Dec.{leb, ltb}
 use lib.ListN.{getD, length}
@@ -17,10 +18,13 @@ use Rattle.header.specs.Header.{headerAnswer}
 use Rattle.start.specs.declared.StartAnswer.the-variants as started
 use Rattle.start.specs.Start.{startOf, startAnswer}
 use Rattle.iter.specs.declared.step.StepAnswer.the-variants as stepped
-use Rattle.iter.specs.Step.{stepOf, stepAnswer}
+use Rattle.walker.specs.declared.Walked.{Walked}
+use Rattle.iter.specs.Step.{stepOf}
+use Rattle.walker.specs.Walk.{lineBehind, walkAnswer}
 use Rattle.handed.specs.Handed.{Handed, good, error, Given, whats}
 use Rattle.handed.specs.Iteration.{saidEnd, readOf, outOf, stopOf}
 use Rattle.handed.specs.Lines.{InLines, Each}
+use Rattle.handed.specs.TrueLines.{TrueLines}
 use Rattle.checks.specs.declared.Verdict.the-variants.{Clean}
 use Rattle.checks.specs.declared.CheckAnswer.the-variants as checked
 use Rattle.checks.specs.Check.{checkAnswer}
@@ -56,7 +60,7 @@ beginningFrom place (g ∷ l) = if (leb place (g .place)) (g ∷ beginningFrom p
 -- the records of it
 abbrev pub recordBy : Handed → List Handed → List Handed
 recordBy (good e) l = good e ∷ l
-recordBy (error item text) l = l
+recordBy (error line text) l = l
 
 abbrev pub recordsIn : List Given → List Handed
 recordsIn [] = []
@@ -96,18 +100,23 @@ module _ (n : ℕ) (header left : List ℕ) (run other a c : List ℕ) where
     pub between : List Given
     pub in-order : handedAfter ≡ endingBefore (length (header ++ left)) handedBefore ++ (between ++ beginningFrom placeAfter handedAfter)
     -- "and no error after that line feed concerns a line of those records"
-    pub errors : Each (λ g. (item : ℕ) (text : List ℕ) → g .what ≡ error item text
+    pub errors : Each (λ g. (line : ℕ) (text : List ℕ) → g .what ≡ error line text
         → Aside g placeAfter placeBefore (lineLen c) (beginningFrom placeBefore handedBefore)) (beginningFrom placeAfter handedAfter)
+
+-- a walk from a place of the file, on a line: what stands there, and the line that it hands on
+abbrev pub walksTo : ℕ → List ℕ → ℕ → ℕ → Walked
+walksTo n file place line =
+    let step = stepOf paper n [] file place line in
+    record { answer = stepped.Done step; line = lineBehind file place line step }
 
 pub record Kept (kind n : ℕ) (header left run other rest : List ℕ) : Type 0 where
   -- "Read from the start": each call answers what the reading is made of
   pub starts : startAnswer kind (whole header left other rest) ≡ started.Done (startOf paper (whole header left other rest))
-  pub steps : (place item : ℕ)
-      → stepAnswer kind [] (whole header left other rest) place item ≡ stepped.Done (stepOf paper n [] (whole header left other rest) place item)
-  -- it starts at the same place and with the same item number as before
+  pub steps : (place line : ℕ) → walkAnswer kind (whole header left other rest) place line ≡ walksTo n (whole header left other rest) place line
+  -- it starts at the same place and on the same line as before
   pub start : startOf paper (whole header left other rest) ≡ startOf paper (whole header left run rest)
   -- the reading comes to the end
-  pub last : ℕ
+  pub last : Option ℕ
   pub end : stopOf (readOf paper n (whole header left other rest)) ≡ saidEnd (length (whole header left other rest)) last
   -- what is handed out of the file before is records alone
   pub all-records : recordsIn (handedOut n (whole header left run rest)) ≡ whats (handedOut n (whole header left run rest))
@@ -118,6 +127,8 @@ pub record Kept (kind n : ℕ) (header left run other rest : List ℕ) : Type 0 
   pub behind : (a c : List ℕ) → rest ≡ a ++ 10 ∷ c → Behind n header left run other a c
   -- "All other bytes handed out are parts of lines standing in the damaged file."
   pub parts : Each (λ g. InLines (whole header left other rest) (g .what)) (handedOut n (whole header left other rest))
+  -- and the line number that is told with an error is the true one in the damaged file
+  pub lines : TrueLines n (whole header left other rest)
 
 -- for both kinds
 abbrev pub Demand3 : Type 0

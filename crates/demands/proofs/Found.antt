@@ -1,10 +1,11 @@
 -- Demand 2: behind the header of a file that passes the check, a valid name is found exactly if a record has it, and a listing hands out
 -- exactly the records with the prefix.
-use mathlib.Core.Path.{_≡_, sym, ap, _∙_}
+use mathlib.Core.Path.{_≡_, refl, sym, ap, _∙_}
 use mathlib.Core.Bool.{true, false}
-use mathlib.Core.List.{List}
+use mathlib.Core.List.{List, [], _∷_}
 use mathlib.Core.Logic.{_⊎_, inl, inr}
-use Prim.Native.Nat.{ℕ, _-_}
+use mathlib.Core.Option.{none as no-line, some}
+use Prim.Native.Nat.{ℕ}
 use native.Mathlib.Omega.{arith}
 use lib.ListN.{length, drop, length-drop}
 use borrow.Author.Tests.{le-ltb, ltb-false}
@@ -16,12 +17,12 @@ use Rattle.name.specs.Name.{validName}
 use Rattle.header.specs.declared.Opened.the-variants as opened
 use Rattle.header.specs.Header.{headerOf}
 use Rattle.decode.specs.declared.reference.Record.{Record}
-use Rattle.start.specs.Start.{firstItem}
-use Rattle.iter.specs.Items.{items}
+use Rattle.start.specs.Start.{startLine}
+use Rattle.iter.specs.Items.{Item, items}
 use Rattle.iter.specs.Step.{stepAnswer}
 use Rattle.handed.specs.Handed.{Given, handed, whats}
-use Rattle.handed.specs.Iteration.{readOf, outOf}
-use Rattle.handed.specs.Hands.{raised}
+use Rattle.handed.specs.Iteration.{saidEnd, readOf, outOf}
+use Rattle.handed.specs.Hands.{lineAfter}
 use Rattle.handed.proofs.Iterations.{reads-file}
 use Rattle.checks.specs.declared.Verdict.the-variants.{Clean}
 use Rattle.checks.specs.Check.{checkOf}
@@ -41,6 +42,11 @@ small-part : (k : ℕ) (s : List ℕ) → overLimit (length s) ≡ false → ove
 unfolding overLimit
 small-part k s e = le-ltb 1073741824 (length (drop k s)) (omega (arith, ltb-false 1073741824 (length s) e, length-drop k s))
 
+-- where no line is known, none is known behind the items
+no-lines : (l : List Item) → lineAfter no-line l ≡ no-line
+no-lines [] = refl
+no-lines (i ∷ l) = no-lines l
+
 -- a lookup that is admitted and does not meet what the check rules out
 module _ (kind n : ℕ) (d : digitsOf kind ≡ kinds.Digits n) (file : List ℕ) (c : Checked kind file) where
   body : List ℕ
@@ -55,7 +61,7 @@ module _ (kind n : ℕ) (d : digitsOf kind ≡ kinds.Digits n) (file : List ℕ)
   small : overLimit (length (bodyOf c)) ≡ false
   small = small-part (c .header .body) file (passed kind n d file (c .count) (c .passes) .1)
 
-  out-is : outOf (readOf paper n file) ≡ handed n (c .header .body) (firstItem file) (items paper n (bodyOf c))
+  out-is : outOf (readOf paper n file) ≡ handed n (c .header .body) (some (startLine file)) (items paper n (bodyOf c))
   out-is = ap outOf (reads-file paper n file .all (c .header) opens)
 
   module _ (name : List ℕ) (valid : validName paper name ≡ true) (short : overLimit (length name) ≡ false) where
@@ -76,21 +82,21 @@ module _ (kind n : ℕ) (d : digitsOf kind ≡ kinds.Digits n) (file : List ℕ)
         record {
           there =
               λ g x h.
-              let y = stood n (bodyOf c) (c .header .body) (firstItem file) name g (rw out-is at x) h in
+              let y = stood n (bodyOf c) (c .header .body) (some (startLine file)) name g (rw out-is at x) h in
               (y .place, y .r, answer ∙ ap looked.Done (exactly .found (y .place) (y .r) (y .named)), y .is);
           only =
               λ place r e.
               let z : lookupOf paper n (bodyOf c) name ≡ Charted place r = let w = sym answer ∙ e in cc in
-              let y = stands-in n (bodyOf c) (c .header .body) (firstItem file) name place r (exactly .only place r z) in
+              let y = stands-in n (bodyOf c) (c .header .body) (some (startLine file)) name place r (exactly .only place r z) in
               (rw out-is (y .0), y .1);
           absent =
               λ no. answer
               ∙ ap looked.Done
               (exactly .absent
-              (λ place r x. let y = stands-in n (bodyOf c) (c .header .body) (firstItem file) name place r x in no (found kind n file c name place r) (rw out-is (y .0)) (y .1)));
+              (λ place r x. let y = stands-in n (bodyOf c) (c .header .body) (some (startLine file)) name place r x in no (found kind n file c name place r) (rw out-is (y .0)) (y .1)));
           none =
               λ e g x h.
-              let y = stood n (bodyOf c) (c .header .body) (firstItem file) name g (rw out-is at x) h in
+              let y = stood n (bodyOf c) (c .header .body) (some (startLine file)) name g (rw out-is at x) h in
               let z : looked.Done Absent ≡ looked.Done (Charted (y .place) (y .r)) = sym e ∙ answer ∙ ap looked.Done (exactly .found (y .place) (y .r) (y .named)) in
               let w : _≡_ {A = ℕ} 0 1 = cc in
               omega arith;
@@ -109,12 +115,11 @@ module _ (kind n : ℕ) (d : digitsOf kind ≡ kinds.Digits n) (file : List ℕ)
         record {
           place = lists .place;
           starts = rw admitted (ap listed.Done (lists .start));
-          steps = λ at number. rw admitted;
-          out = handed n (lists .place) 1 l;
-          last = raised 1 l;
-          run = lists .all;
+          steps = λ at. rw admitted;
+          out = handed n (lists .place) no-line l;
+          run = λ turns h. lists .all turns h ∙ ap (λ o. record { out = handed n (lists .place) no-line l; stop = saidEnd (length (bodyOf c)) o }) (no-lines l);
           exactly =
-              wanted-is n prefix (items paper n (bodyOf c)) (lists .place) 1 (c .header .body) (firstItem file)
+              wanted-is n prefix (items paper n (bodyOf c)) (lists .place) no-line (c .header .body) (some (startLine file))
               (body-passes n file (c .count) (c .header) clean opens .good)
               ∙ ap (λ (o : List Given). wanted prefix (whats o)) (sym out-is);
         }

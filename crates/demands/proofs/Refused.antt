@@ -34,7 +34,8 @@ use Rattle.start.specs.Start.{startAnswer, startNumber}
 use Rattle.iter.specs.declared.step.StepAnswer.{StepAnswer}
 use Rattle.iter.specs.declared.step.StepAnswer.the-variants as stepped
 use Rattle.iter.specs.Items.{Item, items, nameIn}
-use Rattle.iter.specs.Step.{stepAnswer, stepNumber}
+use Rattle.iter.specs.Step.{plainAnswer, prefixAnswer, stepNumber}
+use Rattle.walker.specs.Walk.{walkAnswer}
 use Rattle.checks.specs.declared.Refusal.{Refusal}
 use Rattle.checks.specs.declared.Refusal.the-variants as refusal
 use Rattle.checks.specs.declared.Verdict.{Verdict}
@@ -154,7 +155,7 @@ lookup-number kind body name = go (admission kind (length body) (length name)) r
     go admitted.TooLarge e = rw e
 
 prefix-start-number : (a : PrefixStartAnswer) → AnsweredBy (prefixStartNumber a) (0 ∷ 1 ∷ 17 ∷ 2 ∷ [])
-prefix-start-number (listed.Done (prefixed.From place item)) = refl
+prefix-start-number (listed.Done (prefixed.From place)) = refl
 prefix-start-number (listed.Done (prefixed.BadHeader place text)) = refl
 prefix-start-number listed.UnknownKind = refl
 prefix-start-number listed.TooLarge = refl
@@ -348,7 +349,9 @@ demand-1 =
             header = λ file. header-number (headerAnswer file);
             name = name-number;
             start = λ kind file. start-number (startAnswer kind file);
-            step = λ kind prefix bytes place item. step-number (stepAnswer kind prefix bytes place item);
+            step = λ kind bytes place. step-number (plainAnswer kind bytes place);
+            walk = λ kind bytes place line. step-number (walkAnswer kind bytes place line .answer);
+            step-prefix = λ kind prefix bytes place. step-number (prefixAnswer kind prefix bytes place);
             check = λ kind file. check-number (checkAnswer kind file);
             lookup = lookup-number;
             prefix-start = λ kind body prefix. prefix-start-number (prefixStartAnswer kind body prefix);

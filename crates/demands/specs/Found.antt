@@ -4,6 +4,7 @@ use mathlib.Core.Path.{_≡_}
 use mathlib.Core.Bool.{true, false}
 use mathlib.Core.List.{List, [], _∷_, _++_}
 use mathlib.Core.Logic.{_⊎_}
+use mathlib.Core.Option.{none}
 use Prim.Native.Nat.{ℕ, _+_, _-_, _<_}
 use lib.ListN.{length, drop}
 use Rattle.class.specs.Class.{paper}
@@ -19,7 +20,7 @@ use Rattle.header.specs.Header.{headerAnswer}
 use Rattle.decode.specs.declared.reference.Record.{Record}
 use Rattle.decode.specs.Entry.{entryOf}
 use Rattle.iter.specs.declared.step.StepAnswer.the-variants as stepped
-use Rattle.iter.specs.Step.{stepOf, stepAnswer}
+use Rattle.iter.specs.Step.{stepOf, prefixAnswer}
 use Rattle.handed.specs.Handed.{Handed, good, error, Given, given, whats}
 use Rattle.handed.specs.Iteration.{saidEnd, iterate, readOf, outOf}
 use Rattle.checks.specs.declared.Verdict.the-variants.{Clean}
@@ -53,7 +54,7 @@ pub record In (g : Given) (l : List Given) : Type 0 where
 -- what was handed out is a record of the wanted name
 abbrev pub Has : List ℕ → Handed → Type 0
 Has wanted (good e) = e .name ≡ wanted
-Has wanted (error item text) = ⊥
+Has wanted (error line text) = ⊥
 
 -- ---- the lookup
 
@@ -80,7 +81,7 @@ module _ (kind n : ℕ) (file : List ℕ) (c : Checked kind file) (name : List �
 -- of what was handed out, the records whose names begin with a prefix
 abbrev pub wantedBy : List ℕ → Handed → List Handed → List Handed
 wantedBy prefix (good e) l = if (begins prefix (e .name)) (good e ∷ l) l
-wantedBy prefix (error item text) l = l
+wantedBy prefix (error line text) l = l
 
 abbrev pub wanted : List ℕ → List Handed → List Handed
 wanted prefix [] = []
@@ -90,14 +91,13 @@ module _ (kind n : ℕ) (file : List ℕ) (c : Checked kind file) (prefix : List
   pub record ListedIfWanted : Type 0 where
     -- where the prefix iteration starts
     pub place : ℕ
-    pub starts : prefixStartAnswer kind (bodyOf c) prefix ≡ listed.Done (From place 1)
+    pub starts : prefixStartAnswer kind (bodyOf c) prefix ≡ listed.Done (From place)
     -- each step from there on answers what the run is made of
-    pub steps : (at item : ℕ) → stepAnswer kind prefix (bodyOf c) at item ≡ stepped.Done (stepOf paper n prefix (bodyOf c) at item)
+    pub steps : (at : ℕ) → prefixAnswer kind prefix (bodyOf c) at ≡ stepped.Done (stepOf paper n prefix (bodyOf c) at 0)
     -- "it lists exactly the records with the prefix, in order", and then says the end
     pub out : List Given
-    pub last : ℕ
     pub run : (turns : ℕ) → length (bodyOf c) - place < turns
-        → iterate paper n prefix (bodyOf c) turns place 1 ≡ record { out = out; stop = saidEnd (length (bodyOf c)) last }
+        → iterate paper n prefix (bodyOf c) turns place none ≡ record { out = out; stop = saidEnd (length (bodyOf c)) none }
     pub exactly : whats out ≡ wanted prefix (whats (outOf (readOf paper n file)))
 
 -- for both kinds, and names and prefixes within the limit

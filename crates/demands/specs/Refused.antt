@@ -11,7 +11,8 @@ use Rattle.parse.specs.declared.limit.Admission.the-variants as admitted
 use Rattle.parse.specs.Limit.{admission, admissionNumber}
 use Rattle.header.specs.Header.{headerAnswer, headerNumber}
 use Rattle.start.specs.Start.{startAnswer, startNumber}
-use Rattle.iter.specs.Step.{stepAnswer, stepNumber}
+use Rattle.iter.specs.Step.{plainAnswer, prefixAnswer, stepNumber}
+use Rattle.walker.specs.Walk.{walkAnswer}
 use Rattle.checks.specs.Check.{checkAnswer, checkNumber, turnOf, turnNumber}
 use Rattle.ask.specs.Ask.{askAnswer, askNumber, askFault}
 use Rattle.find.specs.Lookup.{lookupAnswer, lookupNumber}
@@ -34,7 +35,9 @@ pub record AllNumbered : Type 0 where
   pub header : (file : List ℕ) → AnsweredBy (headerNumber (headerAnswer file)) (0 ∷ 17 ∷ 2 ∷ [])
   pub name : (name : List ℕ) → AnsweredBy (nameNumber name) (0 ∷ 17 ∷ 3 ∷ [])
   pub start : (kind : ℕ) (file : List ℕ) → AnsweredBy (startNumber (startAnswer kind file)) (0 ∷ 1 ∷ 17 ∷ 2 ∷ [])
-  pub step : (kind : ℕ) (prefix bytes : List ℕ) (place item : ℕ) → AnsweredBy (stepNumber (stepAnswer kind prefix bytes place item)) (0 ∷ 1 ∷ 17 ∷ [])
+  pub step : (kind : ℕ) (bytes : List ℕ) (place : ℕ) → AnsweredBy (stepNumber (plainAnswer kind bytes place)) (0 ∷ 1 ∷ 17 ∷ [])
+  pub walk : (kind : ℕ) (bytes : List ℕ) (place line : ℕ) → AnsweredBy (stepNumber (walkAnswer kind bytes place line .answer)) (0 ∷ 1 ∷ 17 ∷ [])
+  pub step-prefix : (kind : ℕ) (prefix bytes : List ℕ) (place : ℕ) → AnsweredBy (stepNumber (prefixAnswer kind prefix bytes place)) (0 ∷ 1 ∷ 17 ∷ [])
   pub check : (kind : ℕ) (file : List ℕ) → AnsweredBy (checkNumber (checkAnswer kind file)) (0 ∷ 1 ∷ 17 ∷ 2 ∷ 6 ∷ badRecord)
   -- a hit that can't be read is 41 or 45, a miss after a failed probe 4
   pub lookup : (kind : ℕ) (body name : List ℕ) → AnsweredBy (lookupNumber (lookupAnswer kind body name)) (0 ∷ 1 ∷ 17 ∷ 3 ∷ 41 ∷ 45 ∷ 4 ∷ 5 ∷ [])

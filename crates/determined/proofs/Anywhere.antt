@@ -8,6 +8,7 @@ called = record {
   packed-refs-name = λ m v k k′ o o′. clauses-1 (m .𝓤) (λ p q i. (one p q i, o .lent));
   packed-refs-start = λ m v k k′ o o′. clauses-1 (m .𝓤) (λ p q i. (one p q i, o .lent));
   packed-refs-step = λ m v k k′ o o′. clauses-1 (m .𝓤) (λ p q i. (one p q i, o .lent));
+  packed-refs-walk = λ m v k k′ o o′. clauses-1 (m .𝓤) (λ p q i. (one p q i, o .lent));
   packed-refs-step-prefix = λ m v k k′ o o′. clauses-1 (m .𝓤) (λ p q i. (one p q i, o .lent));
   packed-refs-check = λ m v k k′ o o′. clauses-1 (m .𝓤) (λ p q i. (one p q i, o .lent));
   packed-refs-record-start = λ m v k k′ o o′. clauses-1 (m .𝓤) (λ p q i. (one p q i, o .lent));

@@ -13,6 +13,7 @@ use Rattle.host.proofs.read.packed_refs_header
 use Rattle.host.proofs.read.packed_refs_name
 use Rattle.host.proofs.read.packed_refs_start
 use Rattle.host.proofs.read.packed_refs_step
+use Rattle.host.proofs.read.packed_refs_walk
 use Rattle.host.proofs.read.packed_refs_step_prefix
 use Rattle.host.proofs.read.packed_refs_check
 use Rattle.host.proofs.read.packed_refs_record_start
@@ -91,8 +92,9 @@ pub record Called : Type 2 where
   pub packed-refs-header : Anywhere packed_refs_header.ended (λ M. packed_refs_header.clauses) (lent ∷ []) (λ κs a. a) (λ κs r. r) (λ κs a l. l)
   pub packed-refs-name : Anywhere packed_refs_name.ended (λ M. packed_refs_name.clauses) (lent ∷ []) (λ κs a. a) (λ κs r. r) (λ κs a l. l)
   pub packed-refs-start : Anywhere packed_refs_start.ended (λ M. packed_refs_start.clauses) (number ∷ lent ∷ []) (λ κs a. a) (λ κs r. r) (λ κs a l. l)
-  pub packed-refs-step : Anywhere packed_refs_step.ended (λ M. packed_refs_step.clauses) (number ∷ lent ∷ number ∷ number ∷ []) (λ κs a. a) (λ κs r. r) (λ κs a l. l)
-  pub packed-refs-step-prefix : Anywhere packed_refs_step_prefix.ended (λ M. packed_refs_step_prefix.clauses) (number ∷ lent ∷ lent ∷ number ∷ number ∷ []) (λ κs a. a) (λ κs r. r) (λ κs a l. l)
+  pub packed-refs-step : Anywhere packed_refs_step.ended (λ M. packed_refs_step.clauses) (number ∷ lent ∷ number ∷ []) (λ κs a. a) (λ κs r. r) (λ κs a l. l)
+  pub packed-refs-walk : Anywhere packed_refs_walk.ended (λ M. packed_refs_walk.clauses) (number ∷ lent ∷ number ∷ number ∷ []) (λ κs a. a) (λ κs r. r) (λ κs a l. l)
+  pub packed-refs-step-prefix : Anywhere packed_refs_step_prefix.ended (λ M. packed_refs_step_prefix.clauses) (number ∷ lent ∷ lent ∷ number ∷ []) (λ κs a. a) (λ κs r. r) (λ κs a l. l)
   pub packed-refs-check : Anywhere packed_refs_check.ended (λ M. packed_refs_check.clauses) (number ∷ lent ∷ []) (λ κs a. a) (λ κs r. r) (λ κs a l. l)
   pub packed-refs-record-start : Anywhere packed_refs_record_start.ended (λ M. packed_refs_record_start.clauses) (lent ∷ number ∷ []) (λ κs a. a) (λ κs r. r) (λ κs a l. l)
   pub packed-refs-lookup : Anywhere packed_refs_lookup.ended (λ M. packed_refs_lookup.clauses) (number ∷ lent ∷ lent ∷ []) (λ κs a. a) (λ κs r. r) (λ κs a l. l)

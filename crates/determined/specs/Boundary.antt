@@ -3,6 +3,7 @@ use Rattle.reply_file.proofs.head.header_reply
 use Rattle.reply_file.proofs.head.name_number
 use Rattle.reply_file.proofs.walk.start_reply
 use Rattle.reply_file.proofs.walk.step_reply
+use Rattle.reply_file.proofs.walk.walk_reply
 use Rattle.reply_file.proofs.walk.prefix_step_reply
 use Rattle.reply_file.proofs.verdict.check_reply
 use Rattle.reply_lookup.proofs.lookup.lookup_reply
@@ -19,6 +20,7 @@ use Rattle.host.proofs.read.packed_refs_header
 use Rattle.host.proofs.read.packed_refs_name
 use Rattle.host.proofs.read.packed_refs_start
 use Rattle.host.proofs.read.packed_refs_step
+use Rattle.host.proofs.read.packed_refs_walk
 use Rattle.host.proofs.read.packed_refs_step_prefix
 use Rattle.host.proofs.read.packed_refs_check
 use Rattle.host.proofs.read.packed_refs_record_start
@@ -34,6 +36,7 @@ pub record Boundary : Type 2 where
   pub reply-name-number : Determined name_number.ended (λ M. name_number.clauses)
   pub reply-start-reply : Determined start_reply.ended (λ M. start_reply.clauses)
   pub reply-step-reply : Determined step_reply.ended (λ M. step_reply.clauses)
+  pub reply-walk-reply : Determined walk_reply.ended (λ M. walk_reply.clauses)
   pub reply-prefix-step-reply : Determined prefix_step_reply.ended (λ M. prefix_step_reply.clauses)
   pub reply-check-reply : Determined check_reply.ended (λ M. check_reply.clauses)
   pub reply-lookup-reply : Determined lookup_reply.ended (λ M. lookup_reply.clauses)
@@ -50,6 +53,7 @@ pub record Boundary : Type 2 where
   pub packed-refs-name : Determined packed_refs_name.ended (λ M. packed_refs_name.clauses)
   pub packed-refs-start : Determined packed_refs_start.ended (λ M. packed_refs_start.clauses)
   pub packed-refs-step : Determined packed_refs_step.ended (λ M. packed_refs_step.clauses)
+  pub packed-refs-walk : Determined packed_refs_walk.ended (λ M. packed_refs_walk.clauses)
   pub packed-refs-step-prefix : Determined packed_refs_step_prefix.ended (λ M. packed_refs_step_prefix.clauses)
   pub packed-refs-check : Determined packed_refs_check.ended (λ M. packed_refs_check.clauses)
   pub packed-refs-record-start : Determined packed_refs_record_start.ended (λ M. packed_refs_record_start.clauses)

@@ -8,7 +8,13 @@ use Rattle.start.proofs.begin
 use Rattle.start.proofs.begin_using
 use Rattle.iter.proofs.step.next as iter_next
 use Rattle.iter.proofs.step.next_with_prefix
+use Rattle.iter.proofs.step.next_on_line
 use Rattle.iter.proofs.step.next_using
+use Rattle.walker.proofs.walk
+use Rattle.line_number.proofs.line_number
+use Rattle.line_number.proofs.more_lines
+use Rattle.line_number.proofs.text_len
+use Rattle.line_number.proofs.behind
 use Rattle.iterator.proofs.new
 use Rattle.iterator.proofs.next as iterator_next
 use Rattle.iterator.proofs.first
@@ -31,7 +37,13 @@ pub record Files : Type 2 where
   pub start-begin-using : Determined begin_using.ended (λ M. begin_using.clauses)
   pub iter-next : Determined iter_next.ended (λ M. iter_next.clauses)
   pub iter-next-with-prefix : Determined next_with_prefix.ended (λ M. next_with_prefix.clauses)
+  pub iter-next-on-line : Determined next_on_line.ended (λ M. next_on_line.clauses)
   pub iter-next-using : Determined next_using.ended (λ M. next_using.clauses)
+  pub walker-walk : Determined walk.ended (λ M. walk.clauses)
+  pub line-number-line-number : Determined line_number.ended (λ M. line_number.clauses)
+  pub line-number-more-lines : Determined more_lines.ended (λ M. more_lines.clauses)
+  pub line-number-text-len : Determined text_len.ended (λ M. text_len.clauses)
+  pub line-number-behind : Determined behind.ended (λ M. behind.clauses)
   pub iterator-new : Determined new.ended (λ M. new.clauses)
   pub iterator-next : Determined iterator_next.ended (λ M. iterator_next.clauses)
   pub iterator-first : Determined first.ended (λ M. first.clauses)

@@ -2,6 +2,7 @@
 use mathlib.Core.Path.{_≡_, refl, sym, ap, _∙_}
 use mathlib.Core.Bool.{Bool, true, false, and-eq-true-iff}
 use mathlib.Core.List.{List, [], _∷_, _++_, append-assoc, append-nil}
+use mathlib.Core.Option.{none as no-line}
 use Prim.Native.Nat.{ℕ, _+_, _<_}
 use native.Mathlib.Nat.{add-zero}
 use native.Mathlib.Omega.{arith}
@@ -21,7 +22,7 @@ use Rattle.start.specs.declared.Start.the-variants as start
 use Rattle.iter.specs.Items.{Item, items, bytesOf, nameOf}
 use Rattle.checks.specs.Passes.{isGood, allGood, Passes}
 use Rattle.iter.specs.Stands.{Stands}
-use Rattle.start.specs.Start.{firstItem, startOf}
+use Rattle.start.specs.Start.{startLine, startOf}
 use Rattle.iter.proofs.Each.{each}
 use Rattle.iter.proofs.Items.{items-step, tile}
 use Rattle.handed.specs.Hands.{unlessOther, upToOther, allOf}
@@ -52,10 +53,10 @@ module _ (n : ℕ) (pos : 0 < n) (s : List ℕ) (good : allGood (items paper n s
           omega arith
 
   starts-at : startOf paper s ≡ start.At 0 1
-  unfolding startOf firstItem
+  unfolding startOf startLine
   starts-at = rw (no-hash paper s first-byte, ne-eqb (getD s 0 0) 35 first-byte)
 
-from-place : (s : List ℕ) (place : ℕ) → startOf paper (drop place s) ≡ start.At 0 1 → prefixStartFrom paper s place ≡ From place 1
+from-place : (s : List ℕ) (place : ℕ) → startOf paper (drop place s) ≡ start.At 0 1 → prefixStartFrom paper s place ≡ From place
 unfolding prefixStartFrom
 from-place s place e = rw (e, add-zero place)
 
@@ -120,6 +121,6 @@ lists-exactly n pos s count passes prefix =
       place = place;
       start = from-place s place (starts-at n pos (drop place s) (l .rest));
       all =
-          λ turns h. hands-out paper n prefix s place 1 .all turns h
-          ∙ ap (allOf n (length s) place 1) (good-leads n prefix (items paper n (drop place s)) (l .rest) ∙ l .leads);
+          λ turns h. hands-out paper n prefix s place no-line .all turns h
+          ∙ ap (allOf n (length s) place no-line) (good-leads n prefix (items paper n (drop place s)) (l .rest) ∙ l .leads);
     }

@@ -21,14 +21,15 @@ placeOf (Miss place failed) = place
 
 -- a start that was found in the bytes from a place on, with its place counted in the whole lent bytes
 abbrev pub shifted : ℕ → Start → PrefixStart
-shifted place (start.At behind item) = From (place + behind) item
+shifted place (start.At behind line) = From (place + behind)
 shifted place (start.BadHeader text) = BadHeader place text
 
 -- "applies the `#` rule to the part it starts on"
 unfoldable pub prefixStartFrom : Classes → List ℕ → ℕ → PrefixStart
 prefixStartFrom byte s place = shifted place (startOf byte (drop place s))
 
--- "Prefix iteration starts at the search's place for the prefix, numbers from 1, ignores remembered failures"
+-- "Prefix iteration starts at the search's place for the prefix, [..] ignores remembered failures". Document 01's "numbers from 1" is gone with document 02: it
+-- gives "0 for the line number, since it starts in the middle"
 unfoldable pub prefixStartOf : Classes → ℕ → List ℕ → List ℕ → PrefixStart
 prefixStartOf byte n s prefix = prefixStartFrom byte s (placeOf (searchOf byte n s prefix))
 
@@ -38,7 +39,7 @@ prefixStartAnswer kind s prefix =
 
 -- the paper's number for each case
 abbrev pub prefixStartNumber : PrefixStartAnswer → ℕ
-prefixStartNumber (Done (From place item)) = 0
+prefixStartNumber (Done (From place)) = 0
 prefixStartNumber (Done (BadHeader place text)) = 2
 prefixStartNumber UnknownKind = 1
 prefixStartNumber TooLarge = 17

@@ -3,6 +3,7 @@ use mathlib.Core.Path.{_≡_}
 use mathlib.Core.Bool.{true, false}
 use mathlib.Core.List.{List, [], _∷_}
 use mathlib.Core.Logic.{_⊎_}
+use mathlib.Core.Option.{none}
 use Prim.Native.Nat.{ℕ, _-_, _^_, _≤_, _<_}
 use lib.ListN.{length, drop}
 use Rattle.parse.specs.Choice.{if}
@@ -50,12 +51,12 @@ abbrev pub withPrefix : ℕ → List ℕ → List Item → List Item
 withPrefix n prefix [] = []
 withPrefix n prefix (i ∷ l) = if (begins prefix (nameOf n i)) (i ∷ withPrefix n prefix l) (withPrefix n prefix l)
 
--- a caller who steps with the prefix from the place and the item number of the start is handed those records, and then the end
+-- a caller who steps with the prefix from the place of the start is handed those records, and then the end
 pub record ListsExactly (n : ℕ) (s prefix : List ℕ) : Type 0 where
   pub place : ℕ
-  pub start : prefixStartOf paper n s prefix ≡ From place 1
+  pub start : prefixStartOf paper n s prefix ≡ From place
   pub all : (turns : ℕ) → length s - place < turns
-      → iterate paper n prefix s turns place 1 ≡ allOf n (length s) place 1 (withPrefix n prefix (items paper n s))
+      → iterate paper n prefix s turns place none ≡ allOf n (length s) place none (withPrefix n prefix (items paper n s))
 
 abbrev pub ListsInChecked : Type 0
 ListsInChecked = (n : ℕ) → 0 < n → (file prefix : List ℕ) → InChecked n file (λ body. ListsExactly n body prefix)

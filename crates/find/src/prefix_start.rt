@@ -9,8 +9,8 @@ use search::Halved;
 use start::Start;
 
 pub enum PrefixStart {
-    // The place that the first step is taken from, and its item number.
-    From { place: usize, item: u64 },
+    // The place that the first step is taken from. It tells no line: the listing starts in the middle.
+    From { place: usize },
     // The bytes from the start on begin with # but with no header that can be read: where they begin, and the length of that text.
     BadHeader { place: usize, text: usize },
 }
@@ -52,10 +52,9 @@ fn begin_from(t: &[u8; 256], body: &[u8], place: usize) -> PrefixStart
     match start::begin_using(t, parse::part::between(body, place, body.len())) {
         Start::At {
             place: behind,
-            item,
+            line: _,
         } => PrefixStart::From {
             place: place + behind,
-            item,
         },
         Start::BadHeader(text) => PrefixStart::BadHeader { place, text },
     }

@@ -1,2 +1,3 @@
 pub mod Iterations
 pub mod Lines
+pub mod TrueLines

@@ -2,6 +2,7 @@
 use mathlib.Core.Path.{_≡_, refl, sym, ap, _∙_}
 use mathlib.Core.Logic.{_⊎_, inl, inr}
 use mathlib.Core.List.{List, [], _∷_}
+use mathlib.Core.Option.{Option, some}
 use Prim.Native.Nat.{ℕ, suc, _+_, _-_, _<_}
 use native.Mathlib.Numerals.{add-one}
 use native.Mathlib.Omega.{arith}
@@ -17,19 +18,19 @@ use Rattle.header.specs.declared.Header.{Header}
 use Rattle.header.specs.declared.Opened.{Opened}
 use Rattle.header.specs.declared.Opened.the-variants as opened
 use Rattle.header.specs.Header.{tokens, plainHeader, headerOf}
-use Rattle.header.proofs.Headers.{all-noted-body, HeaderView, none, unreadable, some, header-view}
+use Rattle.header.proofs.Headers.{all-noted-body, HeaderView, none, unreadable, some as readable, header-view}
 use Rattle.decode.specs.Entry.{entryOf}
 use Rattle.decode.specs.Record.{recordOf}
 use Rattle.decode.proofs.Records.{View, is-bad, plain, peeled, view, headLen, peelLen, nameLen, Fits, fits}
 use Rattle.decode.proofs.Locality.{head-line, peel-line}
 use Rattle.probe.specs.RecordStart.{lineStart}
-use Rattle.start.specs.Start.{firstItem, startOf}
+use Rattle.start.specs.Start.{startLine, startOf}
+use Rattle.line_number.specs.LineNumber.{untilFeed}
 use Rattle.iter.specs.Items.{Item, sizeOf, itemOf, items}
-use Rattle.iter.specs.Step.{more}
 use Rattle.iter.proofs.Covers.{front-at}
 use Rattle.iter.proofs.Each.{line-behind, item-behind}
 use Rattle.iter.proofs.Items.{items-step, some-item, size-le}
-use Rattle.handed.specs.Handed.{good, handedBy, handed}
+use Rattle.handed.specs.Handed.{good, lineOver, handedBy, handed}
 use Rattle.handed.specs.Iteration.{readOf}
 use Rattle.handed.specs.Lines.{InLine, InLines, Each, ReadFromLines}
 use Rattle.handed.proofs.Iterations.{reads-file}
@@ -49,7 +50,7 @@ body-line file h e inside = go (header-view paper file)
     go : HeaderView paper file → lineStart file (h .body) ≡ h .body
     go (none x f) = let z : h ≡ plainHeader 0 = cc in rw z
     go (unreadable x f) = absurd (let z : _≡_ {A = ℕ} 0 1 = cc in omega arith)
-    go (some x m {end} {next} t f) =
+    go (readable x m {end} {next} t f) =
         let words = tokens (take (end - 18) (drop 18 file)) in
         let z : h .body ≡ next = ap (λ (k : Opened). bodyOf k) (sym e ∙ f) ∙ all-noted-body words (plainHeader next) in
         at-text t z (text-view paper file 18)
@@ -97,20 +98,20 @@ module _ (n : ℕ) (s : List ℕ) (place : ℕ) (inside : place < length s) (sta
             },
           )
 
-  item-lines : (item : ℕ) → InLines s (handedBy n item (take (sizeOf paper n t) t) (recordOf paper n t))
+  item-lines : (line : Option ℕ) → InLines s (handedBy n line (take (sizeOf paper n t) t) (recordOf paper n t))
   unfolding sizeOf
-  item-lines item = go (view paper n t)
+  item-lines line = go (view paper n t)
     where
-      go : View paper n t → InLines s (handedBy n item (take (sizeOf paper n t) t) (recordOf paper n t))
-      go (is-bad f w e) = rw e (in-first _ 0 (length first - 1) refl)
+      go : View paper n t → InLines s (handedBy n line (take (sizeOf paper n t) t) (recordOf paper n t))
+      go (is-bad f w e) = rw e (in-first _ 0 (untilFeed first) refl)
       go (plain h c e) = rw (e, head-line n t h) (in-first _ 0 n refl, in-first _ (n + 1) (nameLen paper n t) refl, tt)
       go (peeled h c p e) = rw e (two-lines (headLen paper n t) (peelLen paper n (drop (headLen paper n t) t)) (nameLen paper n t) (head-line n t h)
           (peel-line n (drop (headLen paper n t) t) (front-at 94 (omega arith) (headLen paper n t) t c) p) (fits paper n t _ e))
 
-pub lines-from : (n : ℕ) (s : List ℕ) (l : List Item) (place item : ℕ) → items paper n (drop place s) ≡ l → (place < length s → lineStart s place ≡ place)
-    → Each (λ g. InLines s (g .what)) (handed n place item l)
-lines-from n s [] place item e start = tt
-lines-from n s (i ∷ l) place item e start =
+pub lines-from : (n : ℕ) (s : List ℕ) (l : List Item) (place : ℕ) (line : Option ℕ) → items paper n (drop place s) ≡ l → (place < length s → lineStart s place ≡ place)
+    → Each (λ g. InLines s (g .what)) (handed n place line l)
+lines-from n s [] place line e start = tt
+lines-from n s (i ∷ l) place line e start =
     let t = drop place s in
     let k = sizeOf paper n t in
     let some : 0 < length t = some-item paper n t i l e in
@@ -118,7 +119,7 @@ lines-from n s (i ∷ l) place item e start =
     let is : i ≡ itemOf paper n t = cc (items-step paper n t some) in
     let long : length (i .bytes) ≡ k = ap (λ (x : Item). length (x .bytes)) is ∙ length-take-le k t (size-le paper n t) in
     let rest : items paper n (drop (place + k) s) ≡ l = ap (items paper n) (sym (drop-drop k place s)) ∙ cc (items-step paper n t some) in
-    (rw is (item-lines n s place inside (start inside) item), rw long (lines-from n s l (place + k) (more item) rest (item-behind n s place)))
+    (rw is (item-lines n s place inside (start inside) line), rw long (lines-from n s l (place + k) (lineOver line i) rest (item-behind n s place)))
 
 pub read-from-lines : (n : ℕ) (file : List ℕ) → ReadFromLines n file
 unfolding readOf startOf
@@ -128,4 +129,4 @@ read-from-lines n file = go (headerOf paper file) refl
     go (opened.Unreadable k) e = rw e tt
     go (opened.Header h) e =
         rw (reads-file paper n file .all h e)
-        (lines-from n file (items paper n (drop (h .body) file)) (h .body) (firstItem file) refl (body-line file h e))
+        (lines-from n file (items paper n (drop (h .body) file)) (h .body) (some (startLine file)) refl (body-line file h e))

@@ -32,7 +32,7 @@ InLineIf s (some x) = InLine s x
 -- all bytes of what is handed out do
 abbrev pub InLines : List ℕ → Handed → Type 0
 InLines s (good e) = InLine s (e .id) × InLine s (e .name) × InLineIf s (e .peeled)
-InLines s (error item text) = InLine s text
+InLines s (error line text) = InLine s text
 
 abbrev pub Each : (Given → Type 0) → List Given → Type 0
 Each P [] = Unit {0}

@@ -1,17 +1,17 @@
 // Everything that reads: header, name, iteration, check, lookups and loose content.
 ghost use mathlib.Core.Path.{_≡_};
-ghost use mathlib.Core.List.{[]};
 ghost use Rattle.header.specs.Header.{headerAnswer};
 ghost use Rattle.probe.specs.RecordStart.{recordStart};
 ghost use Rattle.start.specs.Start.{startAnswer};
-ghost use Rattle.iter.specs.Step.{stepAnswer};
+ghost use Rattle.iter.specs.Step.{plainAnswer, prefixAnswer};
+ghost use Rattle.walker.specs.Walk.{walkAnswer};
 ghost use Rattle.checks.specs.Check.{checkAnswer};
 ghost use Rattle.ask.specs.Ask.{askAnswer};
 ghost use Rattle.find.specs.Lookup.{lookupAnswer};
 ghost use Rattle.find.specs.PrefixStart.{prefixStartAnswer};
 ghost use Rattle.loose.specs.Loose.{looseAnswer};
 ghost use Rattle.reply_file.specs.Head.{headerReply, nameNumber};
-ghost use Rattle.reply_file.specs.Walk.{startReply, stepReply};
+ghost use Rattle.reply_file.specs.Walk.{startReply, stepReply, walkReply};
 ghost use Rattle.reply_file.specs.Verdict.{checkReply};
 ghost use Rattle.reply_lookup.specs.Lookup.{lookupReply};
 ghost use Rattle.reply_lookup.specs.Prefix.{prefixReply};
@@ -48,29 +48,38 @@ pub extern "C" fn packed_refs_start(kind: u32, file: &[u8]) -> StartReply
     reply_file::walk::start_reply(kind, file)
 }
 
+// The plain step: an error's line is counted in the bytes.
 #[no_mangle]
-pub extern "C" fn packed_refs_step(kind: u32, bytes: &[u8], place: usize, item: u64) -> StepReply
-    ensures { λ r. ⌜ r ≡ stepReply kind place (stepAnswer kind [] (now (bytes .entry)) place item) ⌝ }
+pub extern "C" fn packed_refs_step(kind: u32, bytes: &[u8], place: usize) -> StepReply
+    ensures { λ r. ⌜ r ≡ stepReply kind place (plainAnswer kind (now (bytes .entry)) place) ⌝ }
 {
-    reply_file::walk::step_reply(kind, bytes, place, item)
+    reply_file::walk::step_reply(kind, bytes, place)
 }
 
+// The step that is given the line number of its place, and hands on the next.
+#[no_mangle]
+pub extern "C" fn packed_refs_walk(kind: u32, bytes: &[u8], place: usize, line: u64) -> StepReply
+    ensures { λ r. ⌜ r ≡ walkReply kind place (walkAnswer kind (now (bytes .entry)) place line) ⌝ }
+{
+    reply_file::walk::walk_reply(kind, bytes, place, line)
+}
+
+// The step with a prefix: an error has no line number.
 #[no_mangle]
 pub extern "C" fn packed_refs_step_prefix(
     kind: u32,
     bytes: &[u8],
     prefix: &[u8],
     place: usize,
-    item: u64,
 ) -> StepReply
-    ensures { λ r. ⌜ r ≡ stepReply kind place (stepAnswer kind (now (prefix .entry)) (now (bytes .entry)) place item) ⌝ }
+    ensures { λ r. ⌜ r ≡ stepReply kind place (prefixAnswer kind (now (prefix .entry)) (now (bytes .entry)) place) ⌝ }
 {
-    reply_file::walk::prefix_step_reply(kind, bytes, prefix, place, item)
+    reply_file::walk::prefix_step_reply(kind, bytes, prefix, place)
 }
 
 #[no_mangle]
 pub extern "C" fn packed_refs_check(kind: u32, file: &[u8]) -> CheckReply
-    ensures { λ r. ⌜ r ≡ checkReply (checkAnswer kind (now (file .entry))) ⌝ }
+    ensures { λ r. ⌜ r ≡ checkReply (now (file .entry)) (checkAnswer kind (now (file .entry))) ⌝ }
 {
     reply_file::verdict::check_reply(kind, file)
 }
@@ -99,7 +108,7 @@ pub extern "C" fn packed_refs_prefix(kind: u32, body: &[u8], prefix: &[u8]) -> P
 
 #[no_mangle]
 pub extern "C" fn packed_refs_ask(kind: u32, file: &[u8], name: &[u8]) -> AskReply
-    ensures { λ r. ⌜ r ≡ askReply kind (askAnswer kind (now (file .entry)) (now (name .entry))) ⌝ }
+    ensures { λ r. ⌜ r ≡ askReply kind (now (file .entry)) (askAnswer kind (now (file .entry)) (now (name .entry))) ⌝ }
 {
     reply_lookup::asked::ask_reply(kind, file, name)
 }

@@ -13,7 +13,7 @@ pub extern "C" fn packed_refs_merge(
     index: &mut [u32],
     out: &mut [u8],
 ) -> MergeReply
-    ensures { λ r. ⌜ r ≡ mergeReply (mergeAnswer kind (now (old .entry)) (now (edits .entry)) (length (now (index .entry))) (length (now (out .entry)))) ⌝ }
+    ensures { λ r. ⌜ r ≡ mergeReply (now (old .entry)) (mergeAnswer kind (now (old .entry)) (now (edits .entry)) (length (now (index .entry))) (length (now (out .entry)))) ⌝ }
     ensures { λ _. ⌜ now (index .exit) ≡ indexAnswer kind (now (old .entry)) (now (edits .entry)) (now (index .entry)) ⌝ }
     ensures { λ _. ⌜ now (out .exit) ≡ outputAfter kind (now (old .entry)) (now (edits .entry)) (length (now (index .entry))) (now (out .entry)) ⌝ }
 {

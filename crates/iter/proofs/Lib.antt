@@ -5,3 +5,4 @@ pub mod ItemRead
 pub mod Items
 pub mod Steps
 pub mod Turns
+pub mod OnLine

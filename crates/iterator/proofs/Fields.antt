@@ -28,14 +28,14 @@ use Rattle.iterator.proofs.Iter.Laws as T′
 module _ (d : Iter) where
   -- the machine values, as a call passes them
   abbrev pub passed : List Val × (List Val × (List Val × (List Val × (List Val × Unit {0}))))
-  passed = (vint w32 (d .kind) ∷ [], (sliceVal (d .s .ptr) (length (d .s .now)) ∷ [], (sliceVal (d .prefix .ptr) (length (d .prefix .now)) ∷ [], (vint w64 (d .place) ∷ [], (vint w64 (d .item) ∷ [], tt)))))
+  passed = (vint w32 (d .kind) ∷ [], (sliceVal (d .s .ptr) (length (d .s .now)) ∷ [], (sliceVal (d .prefix .ptr) (length (d .prefix .now)) ∷ [], (vint w64 (d .place) ∷ [], (vint w64 (d .line) ∷ [], tt)))))
 
   abbrev pub machine : List Val
-  machine = vint w32 (d .kind) ∷ sliceVal (d .s .ptr) (length (d .s .now)) ∷ sliceVal (d .prefix .ptr) (length (d .prefix .now)) ∷ vint w64 (d .place) ∷ vint w64 (d .item) ∷ []
+  machine = vint w32 (d .kind) ∷ sliceVal (d .s .ptr) (length (d .s .now)) ∷ sliceVal (d .prefix .ptr) (length (d .prefix .now)) ∷ vint w64 (d .place) ∷ vint w64 (d .line) ∷ []
 
   module _ (α : NamedLft) where
     abbrev pub values : Values (T.the-type α .parts)
-    values = (d .kind, (d .s, (d .prefix, (d .place, (d .item, tt)))))
+    values = (d .kind, (d .s, (d .prefix, (d .place, (d .line, tt)))))
 
     abbrev pub Own : Fml
     Own = T.the-row α .own d (T′.lowered d ∷ [])
@@ -56,5 +56,5 @@ module _ (d : Iter) where
       pub typed : Is (T.the-row α) d (T′.lowered d ∷ []) → Holds (hasTy (T′.mir (α .mir)) (T′.lowered d)) × WT (T′.lowered d)
       typed p = LL.lawful (T.the-type α) (T′.the-laws α) 𝓤 H A W .typed d (T′.lowered d ∷ []) p .0
 
-    pub fits : Is (T.the-row α) d (T′.lowered d ∷ []) → (d .place < 2 ^ 64) × (d .item < 2 ^ 64)
+    pub fits : Is (T.the-row α) d (T′.lowered d ∷ []) → (d .place < 2 ^ 64) × (d .line < 2 ^ 64)
     fits p = let f = LL.owed (T.the-type α) (T′.the-laws α) d (T′.lowered d ∷ []) p in (f .1 .1 .1 .0 .1, f .1 .1 .1 .1 .0 .1)

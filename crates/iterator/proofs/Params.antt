@@ -51,5 +51,5 @@ module _ (result : Slot 1) where
         walk-meets 𝓤 H A ended stayed W (goes-none 𝓤 H A W 1 (λ _. u32) yes (λ κs x k. refl), (goes-none-slice 𝓤 H A W 1 (0 ∷ []) tt (plain (λ _. u8)) yes, (goes-none-slice 𝓤 H A W 1 (0 ∷ []) tt (plain (λ _. u8)) yes, (goes-none 𝓤 H A W 1 (λ _. usize) yes (λ κs x k. refl), (goes-none 𝓤 H A W 1 (λ _. u64) yes (λ κs x k. refl), tt))))) c
         (WpFn 𝓤 H (𝓣 .C) (𝓣 .Λ) f) (WpFn-mono 𝓤 H (W .laws) 𝓣 f)
         (walked 𝓤 H A ended stayed c (WpFn 𝓤 H (𝓣 .C) (𝓣 .Λ) f) (λ κs. (uint-vals w32, (slice-vals, (slice-vals, (uint-vals w64, (uint-vals w64, tt)))))) (λ κs. (uint-tells w32, (shr-slice-tells (named 0) (κs .0) u8, (shr-slice-tells (named 0) (κs .0) u8, (uint-tells w64, (uint-tells w64, tt))))))
-        (λ κs qs bounds a g are. let d : Iter = record { kind = a .0; s = a .1 .0; prefix = a .1 .1 .0; place = a .1 .1 .1 .0; item = a .1 .1 .1 .1 .0 } in
+        (λ κs qs bounds a g are. let d : Iter = record { kind = a .0; s = a .1 .0; prefix = a .1 .1 .0; place = a .1 .1 .1 .0; line = a .1 .1 .1 .1 .0 } in
         via 𝓤 _ (fst∗ 𝓤 _ (c κs a .requires g)) (walk (κs .0) (qs .0) d g (typed d (α (κs .0)) 𝓤 H A W (passed d, (refl, are))))))

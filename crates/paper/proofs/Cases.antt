@@ -10,8 +10,9 @@ use Rattle.header.specs.Header.{headerOf}
 use Rattle.decode.specs.Record.{recordOf}
 use Rattle.probe.specs.Shape.{shapeOf}
 use Rattle.probe.specs.RecordStart.{recordStart}
-use Rattle.start.specs.Start.{firstItem, startOf}
-use Rattle.iter.specs.Step.{more, stepOf}
+use Rattle.start.specs.Start.{startLine, startOf}
+use Rattle.line_number.specs.LineNumber.{atMost}
+use Rattle.iter.specs.Step.{stepOf}
 use Rattle.handed.specs.Iteration.{iterate, readOf}
 use Rattle.iter.specs.Items.{sizeOf, itemsBehind, items}
 use Rattle.checks.specs.Check.{judgeBody, checkOf, checkAnswer}
@@ -28,7 +29,7 @@ use Rattle.loose.specs.Loose.{symbolicOf, looseOf, looseAnswer}
 use Rattle.paper.specs.Cases.{EveryCase}
 
 pub every-case : EveryCase
-unfolding isHex isForbidden isLineEnd byteAt idAt eol newlineAt textAt headerOf recordOf shapeOf recordStart firstItem startOf more stepOf iterate readOf sizeOf itemsBehind items
+unfolding isHex isForbidden isLineEnd byteAt idAt eol newlineAt textAt headerOf recordOf shapeOf recordStart startLine startOf atMost stepOf iterate readOf sizeOf itemsBehind items
     validName judgeBody checkOf checkAnswer probedOf halve searchOf lookupOf lookupAnswer lengthAt symbolicOf looseOf looseAnswer admission digitsOf overLimit
     editOf namedEdit behindName editName sorted firstTwin editsFrom editsOf twinsOf preparedOf finished oldEntries judged editsInOrder mergeOf mergeAnswer
 every-case = refl

@@ -1,5 +1,5 @@
 -- Document 01's examples that are marked P: kind 1, ids of 40 digits. Each is a question, what the definitions answer, and what the
--- document says.
+-- document says; where document 02 changes it, what that says beside the old sentence.
 use mathlib.Core.Path.{_≡_}
 use mathlib.Core.List.{List, [], _∷_, _++_, map}
 use mathlib.Core.Option.{none}
@@ -98,15 +98,17 @@ cases =
     case (iterate []) (gives [])
     ∷ case (check []) (count 0)
     ∷ case (lookup [] refsSA) (number 5)
-    -- "P `x` LF: error 1, text `x`. P `x` alone: error 1, empty text."
+    -- Document 01: "P `x` LF: error 1, text `x`. P `x` alone: error 1, empty text." With document 02's One an error tells its line, and the last line loses
+    -- no byte: `x` LF: an error on line 1, text `x`; `x` alone: an error on line 1, text `x`
     ∷ case (iterate (120 ∷ 10 ∷ [])) (gives (error 1 (120 ∷ []) ∷ []))
-    ∷ case (iterate (120 ∷ [])) (gives (error 1 [] ∷ []))
-    -- "P `1* refs/s/a` LF `^zz` LF: error 1 `1* refs/s/a`, error 2 `^zz`."
+    ∷ case (iterate (120 ∷ [])) (gives (error 1 (120 ∷ []) ∷ []))
+    -- Document 01: "P `1* refs/s/a` LF `^zz` LF: error 1 `1* refs/s/a`, error 2 `^zz`." With document 02: an error on line 1, `1* refs/s/a`, an error on line 2,
+    -- `^zz`
     ∷ case (iterate (line (10 ∷ 94 ∷ 122 ∷ 122 ∷ 10 ∷ []))) (gives (error 1 (line []) ∷ error 2 (94 ∷ 122 ∷ 122 ∷ []) ∷ []))
     -- "P `1* refs/s/a` CR LF: good. P with a bare CR before `b` LF: bad. P without any LF: bad."
     ∷ case (iterate (line (13 ∷ 10 ∷ []))) (gives (good (record { name = refsSA; id = ones 40; peeled = none }) ∷ []))
     ∷ case (iterate (line (13 ∷ 98 ∷ 10 ∷ []))) (gives (error 1 (line (13 ∷ 98 ∷ [])) ∷ []))
-    ∷ case (iterate (line [])) (gives (error 1 (ones 40 ++ 32 ∷ 114 ∷ 101 ∷ 102 ∷ 115 ∷ 47 ∷ 115 ∷ 47 ∷ []) ∷ []))
+    ∷ case (iterate (line [])) (gives (error 1 (line []) ∷ []))
     -- "P length 8 as one byte 8; P 128 as 128, 1; P 8 as 136, 0: number 7."
     ∷ case (nameLength (8 ∷ [])) (count 8)
     ∷ case (nameLength (128 ∷ 1 ∷ [])) (count 128)

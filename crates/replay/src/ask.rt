@@ -9,6 +9,8 @@ pub(crate) fn ask(q: Question, a: &[u8], b: &[u8]) {
         b'h' => header(a),
         b'n' => name(a),
         b'i' => iteration(kind, a),
+        b't' => step(kind, a, q.first),
+        b'w' => walk(kind, a, q.first, q.second as u64),
         b'c' => check(kind, a),
         b's' => record_start(a, q.first),
         b'f' => lookup(kind, a, b),
@@ -36,6 +38,7 @@ fn name(name: &[u8]) {
     tell::number(host::read::packed_refs_name(name));
 }
 
+// Where it begins, on which line, its items, and its end with the line that was handed on.
 fn iteration(kind: u32, file: &[u8]) {
     let r = host::read::packed_refs_start(kind, file);
     tell::number(r.number);
@@ -43,10 +46,13 @@ fn iteration(kind: u32, file: &[u8]) {
         tell::place(r.text_len);
     }
     if r.number == 0 {
-        items(kind, file, &file[0..0], r.place, r.item);
+        tell::place(r.place);
+        tell::count(r.line);
+        walked(items(true, kind, file, &file[0..0], r.place, r.line));
     }
 }
 
+// Where it begins, its items, and its end.
 fn prefix(kind: u32, body: &[u8], prefix: &[u8]) {
     let r = host::read::packed_refs_prefix(kind, body, prefix);
     tell::number(r.number);
@@ -55,18 +61,24 @@ fn prefix(kind: u32, body: &[u8], prefix: &[u8]) {
         tell::place(r.text_len);
     }
     if r.number == 0 {
-        items(kind, body, prefix, r.place, r.item);
+        tell::place(r.place);
+        item(items(false, kind, body, prefix, r.place, 0));
     }
 }
 
-// Where the iteration begins, its items, and its end.
-fn items(kind: u32, bytes: &[u8], prefix: &[u8], from: usize, first: u64) {
-    tell::place(from);
-    tell::count(first);
+// The items from a place on; the end is given back.
+fn items(
+    walks: bool,
+    kind: u32,
+    bytes: &[u8],
+    prefix: &[u8],
+    from: usize,
+    first: u64,
+) -> reply_file::walk::StepReply {
     let mut place = from;
-    let mut number = first;
+    let mut line = first;
     while place < bytes.len() {
-        let r = step(kind, bytes, prefix, place, number);
+        let r = next(walks, kind, bytes, prefix, place, line);
         if r.what == 0 {
             break;
         }
@@ -76,23 +88,46 @@ fn items(kind: u32, bytes: &[u8], prefix: &[u8], from: usize, first: u64) {
             break;
         }
         place = r.next;
-        number = r.item;
+        line = r.next_line;
     }
-    item(step(kind, bytes, prefix, place, number));
+    next(walks, kind, bytes, prefix, place, line)
 }
 
-// An empty prefix is none, and is asked by the plain step.
-fn step(
+// An iteration walks; a listing steps with its prefix, which may be empty, and hands on no line.
+fn next(
+    walks: bool,
     kind: u32,
     bytes: &[u8],
     prefix: &[u8],
     place: usize,
-    number: u64,
+    line: u64,
 ) -> reply_file::walk::StepReply {
-    if prefix.len() == 0 {
-        return host::read::packed_refs_step(kind, bytes, place, number);
+    if walks {
+        return host::read::packed_refs_walk(kind, bytes, place, line);
     }
-    host::read::packed_refs_step_prefix(kind, bytes, prefix, place, number)
+    host::read::packed_refs_step_prefix(kind, bytes, prefix, place)
+}
+
+fn step(kind: u32, bytes: &[u8], place: usize) {
+    let r = host::read::packed_refs_step(kind, bytes, place);
+    tell::number(r.number);
+    if r.number == 0 {
+        item(r);
+    }
+}
+
+fn walk(kind: u32, bytes: &[u8], place: usize, line: u64) {
+    let r = host::read::packed_refs_walk(kind, bytes, place, line);
+    tell::number(r.number);
+    if r.number == 0 {
+        walked(r);
+    }
+}
+
+// What a walk tells, and the line that it hands on.
+fn walked(r: reply_file::walk::StepReply) {
+    item(r);
+    tell::count(r.next_line);
 }
 
 fn item(r: reply_file::walk::StepReply) {
@@ -101,7 +136,6 @@ fn item(r: reply_file::walk::StepReply) {
         0 => {
             tell::text(b" .");
             tell::place(r.next);
-            tell::count(r.item);
         },
         1 => {
             tell::text(b" r");
@@ -112,7 +146,7 @@ fn item(r: reply_file::walk::StepReply) {
             tell::text(b" e");
             tell::place(r.start);
             tell::number(r.why);
-            tell::count(r.error);
+            tell::count(r.line);
             tell::place(r.text_len);
             tell::place(r.next);
         },
@@ -132,7 +166,7 @@ fn check(kind: u32, file: &[u8]) {
     tell::number(n);
     match n {
         0 => tell::place(r.count),
-        _ => tell::refusal(n, r.place, r.text_len),
+        _ => tell::file_refusal(n, r.place, r.line, r.text_len),
     }
 }
 
@@ -160,7 +194,7 @@ fn trusted(kind: u32, file: &[u8], name: &[u8]) {
             record(r.place, r.name_at, r.name_len, r.peeled_at);
             tell::number(r.fault);
         },
-        _ => tell::refusal(n, r.place, r.text_len),
+        _ => tell::file_refusal(n, r.place, r.line, r.text_len),
     }
 }
 

@@ -50,7 +50,7 @@ fn told(r: reply_merge::MergeReply) {
     tell::number(n);
     match n {
         0 => tell::place(r.length),
-        _ => tell::refusal(n, r.place, r.text_len),
+        _ => tell::file_refusal(n, r.place, r.line, r.text_len),
     }
 }
 

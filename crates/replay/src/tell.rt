@@ -27,3 +27,15 @@ pub(crate) fn refusal(number: u32, at: usize, text_len: usize) {
         _ => place(at),
     }
 }
+
+// The same of a file that is checked: beside 41 to 45 the number of the line behind its place, and the length of its text.
+pub(crate) fn file_refusal(number: u32, at: usize, line: u64, text_len: usize) {
+    refusal(number, at, text_len);
+    match number {
+        41 | 42 | 43 | 44 | 45 => {
+            count(line);
+            place(text_len);
+        },
+        _ => {},
+    }
+}

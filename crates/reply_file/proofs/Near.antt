@@ -18,32 +18,32 @@ use Rattle.decode.specs.Record.{recordOf}
 use Rattle.iter.specs.declared.step.Step.the-variants as step
 use Rattle.iter.specs.declared.step.StepAnswer.the-variants as answer
 use Rattle.iter.specs.Items.{nameIn}
-use Rattle.iter.specs.Step.{more, stepBy, stepOf, stepAnswer}
+use Rattle.iter.specs.Step.{stepBy, stepOf, stepAnswer}
 use Rattle.tell.specs.Told.{Near}
 use Rattle.tell.proofs.Near.{Lies, near}
 
-module _ (n : ℕ) (prefix s : List ℕ) (place item : ℕ) {r : Record} {next nextItem : ℕ} where
-  step-by : (w : Reading) → stepBy n prefix s place item w ≡ step.Good r next nextItem → w ≡ reading.Good r
+module _ (n : ℕ) (prefix s : List ℕ) (place line : ℕ) {r : Record} {next : ℕ} where
+  step-by : (w : Reading) → stepBy n prefix s place line w ≡ step.Good r next → w ≡ reading.Good r
   step-by (reading.Good q) e = go (begins prefix (nameIn n (reading.Good q) (drop place s))) e
     where
-      go : (t : Bool) → if t (step.Good q (place + q .size) (more item)) (step.End (length s) item) ≡ step.Good r next nextItem → reading.Good q ≡ reading.Good r
+      go : (t : Bool) → if t (step.Good q (place + q .size)) (step.End (length s)) ≡ step.Good r next → reading.Good q ≡ reading.Good r
       go true h = cc
       go false h = absurd (let z : _≡_ {A = ℕ} 0 1 = cc in omega arith)
   step-by (reading.Bad f) e = absurd (let z : _≡_ {A = ℕ} 0 1 = cc in omega arith)
 
-  step-read : stepOf paper n prefix s place item ≡ step.Good r next nextItem → Lies n s place r
+  step-read : stepOf paper n prefix s place line ≡ step.Good r next → Lies n s place r
   unfolding stepOf
   step-read e = go (ltb place (length s)) refl e
     where
-      go : (t : Bool) → ltb place (length s) ≡ t → if t (stepBy n prefix s place item (recordOf paper n (drop place s))) (step.End (length s) item) ≡ step.Good r next nextItem
+      go : (t : Bool) → ltb place (length s) ≡ t → if t (stepBy n prefix s place line (recordOf paper n (drop place s))) (step.End (length s)) ≡ step.Good r next
           → Lies n s place r
       go true q h = (omega (arith, ltb-true place (length s) q), step-by (recordOf paper n (drop place s)) h)
       go false q h = absurd (let z : _≡_ {A = ℕ} 0 1 = cc in omega arith)
 
-pub step-near : (kind : ℕ) (prefix s : List ℕ) (place item : ℕ) {r : Record} {next nextItem : ℕ}
-    → stepAnswer kind prefix s place item ≡ answer.Done (step.Good r next nextItem) → Near place r
+pub step-near : (kind : ℕ) (prefix s : List ℕ) (place line : ℕ) {r : Record} {next : ℕ}
+    → stepAnswer kind prefix s place line ≡ answer.Done (step.Good r next) → Near place r
 unfolding stepAnswer
-step-near kind prefix s place item {r} {next} {nextItem} e =
-    let (n, digits, h) = through kind (length s) (length prefix) (λ n. answer.Done (stepOf paper n prefix s place item)) e
+step-near kind prefix s place line {r} {next} e =
+    let (n, digits, h) = through kind (length s) (length prefix) (λ n. answer.Done (stepOf paper n prefix s place line)) e
     (λ q. let z : _≡_ {A = ℕ} 0 1 = cc in omega arith) (λ q. let z : _≡_ {A = ℕ} 0 1 = cc in omega arith) in
-    near n s place r (admitted kind (length s) (length prefix) n digits .1) (step-read n prefix s place item {r = r} {next = next} {nextItem = nextItem} cc)
+    near n s place r (admitted kind (length s) (length prefix) n digits .1) (step-read n prefix s place line {r = r} {next = next} cc)

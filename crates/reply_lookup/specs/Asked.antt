@@ -1,5 +1,6 @@
 -- What the lookup that can be trusted on any bytes gives back.
 use mathlib.Core.Path.{_≡_}
+use mathlib.Core.List.{List}
 use Prim.Native.Nat.{ℕ}
 use Rattle.decode.specs.declared.reference.Record.{Record}
 use Rattle.checks.specs.declared.Verdict.{Verdict}
@@ -8,14 +9,15 @@ use Rattle.ask.specs.declared.AskAnswer.{AskAnswer}
 use Rattle.ask.specs.declared.AskAnswer.the-variants.{Done, UnknownKind, TooLarge}
 use Rattle.ask.specs.Ask.{askNumber, askFault}
 use Rattle.tell.specs.declared.Parts.{Parts}
-use Rattle.tell.specs.Told.{Near, noParts, partsOf, refusalPlace, refusalText}
+use Rattle.tell.specs.Told.{Near, noParts, partsOf, refusalPlace, refusalLine, refusalText}
 use Rattle.reply_lookup.specs.declared.asked.AskReply.{AskReply}
 
-abbrev pub askGives : ℕ → ℕ → Parts → ℕ → ℕ → AskReply
-askGives number place parts textLen fault =
+abbrev pub askGives : ℕ → ℕ → ℕ → Parts → ℕ → ℕ → AskReply
+askGives number place line parts textLen fault =
     record {
       number = number;
       place = place;
+      line = line;
       «name_at» = parts .«name_at»;
       «name_len» = parts .«name_len»;
       «peeled_at» = parts .«peeled_at»;
@@ -23,17 +25,17 @@ askGives number place parts textLen fault =
       fault = fault;
     }
 
--- what stands beside a number: where the check refuses, its place or its text; and the fault
-abbrev pub askBeside : ℕ → ℕ → ℕ → AskAnswer → AskReply
-askBeside number fault kind (Done (Charted place r v)) = askGives number place (partsOf kind place r) 0 fault
-askBeside number fault kind (Done Absent) = askGives number 0 noParts 0 fault
-askBeside number fault kind (Done BadName) = askGives number 0 noParts 0 fault
-askBeside number fault kind (Done (Refused why)) = askGives number (refusalPlace why) noParts (refusalText why) fault
-askBeside number fault kind UnknownKind = askGives number 0 noParts 0 fault
-askBeside number fault kind TooLarge = askGives number 0 noParts 0 fault
+-- what stands beside a number: where the check refuses, what the check gives beside it, its place, line and text; and the fault, which is a number alone
+abbrev pub askBeside : ℕ → ℕ → ℕ → List ℕ → AskAnswer → AskReply
+askBeside number fault kind file (Done (Charted place r v)) = askGives number place 0 (partsOf kind place r) 0 fault
+askBeside number fault kind file (Done Absent) = askGives number 0 0 noParts 0 fault
+askBeside number fault kind file (Done BadName) = askGives number 0 0 noParts 0 fault
+askBeside number fault kind file (Done (Refused why)) = askGives number (refusalPlace why) (refusalLine file why) noParts (refusalText file why) fault
+askBeside number fault kind file UnknownKind = askGives number 0 0 noParts 0 fault
+askBeside number fault kind file TooLarge = askGives number 0 0 noParts 0 fault
 
-abbrev pub askReply : ℕ → AskAnswer → AskReply
-askReply kind a = askBeside (askNumber a) (askFault a) kind a
+abbrev pub askReply : ℕ → List ℕ → AskAnswer → AskReply
+askReply kind file a = askBeside (askNumber a) (askFault a) kind file a
 
 -- what the private function `ask_told` requires: a record in the answer lies under the size limit
 abbrev pub AskNear : AskAnswer → Type 0

@@ -8,9 +8,8 @@ use find::prefix_start::PrefixStartAnswer;
 #[repr(C)]
 pub struct PrefixReply {
     pub number: u32,
-    // What the first step is given: its place and its item number.
+    // The place that the first step is given.
     pub place: usize,
-    pub item: u64,
     // Number 2's text.
     pub text_at: usize,
     pub text_len: usize,
@@ -27,21 +26,20 @@ fn prefix_told(answer: PrefixStartAnswer) -> PrefixReply
 {
     match answer {
         PrefixStartAnswer::Done(said) => match said {
-            PrefixStart::From { place, item } => prefix_gives(0, place, item, 0, 0),
-            PrefixStart::BadHeader { place, text } => prefix_gives(2, 0, 0, place, text),
+            PrefixStart::From { place } => prefix_gives(0, place, 0, 0),
+            PrefixStart::BadHeader { place, text } => prefix_gives(2, 0, place, text),
         },
-        PrefixStartAnswer::UnknownKind => prefix_gives(1, 0, 0, 0, 0),
-        PrefixStartAnswer::TooLarge => prefix_gives(17, 0, 0, 0, 0),
+        PrefixStartAnswer::UnknownKind => prefix_gives(1, 0, 0, 0),
+        PrefixStartAnswer::TooLarge => prefix_gives(17, 0, 0, 0),
     }
 }
 
-fn prefix_gives(number: u32, place: usize, item: u64, at: usize, text: usize) -> PrefixReply
-    ensures { λ r. ⌜ r ≡ prefixGives number place item at text ⌝ }
+fn prefix_gives(number: u32, place: usize, at: usize, text: usize) -> PrefixReply
+    ensures { λ r. ⌜ r ≡ prefixGives number place at text ⌝ }
 {
     PrefixReply {
         number,
         place,
-        item,
         text_at: at,
         text_len: text,
     }

@@ -1,13 +1,13 @@
 // Where the iteration of a whole file starts.
 ghost use mathlib.Core.Path.{_≡_};
 ghost use Rattle.class.specs.Class.{classesOf};
-ghost use Rattle.start.specs.Start.{startOf, startAnswer, firstItem};
+ghost use Rattle.start.specs.Start.{startOf, startAnswer, startLine};
 use header::Opened;
 use parse::limit::Admission;
 
 pub enum Start {
-    // The place behind the header, and the first item's number.
-    At { place: usize, item: u64 },
+    // The place behind the header, and the number of the line that begins there.
+    At { place: usize, line: u64 },
     // A first line that begins with # but can't be read as a header: the length of its text.
     BadHeader(usize),
 }
@@ -39,14 +39,14 @@ pub fn begin_using(t: &[u8; 256], file: &[u8]) -> Start
         Opened::Unreadable(text) => Start::BadHeader(text),
         Opened::Header(h) => Start::At {
             place: h.body,
-            item: first_item(file),
+            line: start_line(file),
         },
     }
 }
 
-// The first item's number. A header counts as item 1, so behind it the items begin with 2.
-fn first_item(file: &[u8]) -> u64
-    ensures { λ r. ⌜ r ≡ firstItem (now (file .entry)) ⌝ }
+// The number of the line that the items begin on. A header is line 1, so behind it they begin on line 2.
+fn start_line(file: &[u8]) -> u64
+    ensures { λ r. ⌜ r ≡ startLine (now (file .entry)) ⌝ }
 {
     if file.len() == 0 {
         return 1;

@@ -1,12 +1,17 @@
 -- Where the parts of a record stand in the bytes in which its own place is counted; and what stands beside a refusal's number.
+use mathlib.Core.Path.{_≡_}
 use mathlib.Core.Bool.{_||_}
+use mathlib.Core.List.{List}
 use Prim.Native.Nat.{ℕ, _+_, _≤_}
 use lib.Dec.{eqb}
+use lib.ListN.{length, drop}
 use Rattle.parse.specs.declared.limit.IdKind.{IdKind}
 use Rattle.parse.specs.declared.limit.IdKind.the-variants.{Digits, Unknown}
 use Rattle.parse.specs.Choice.{if}
 use Rattle.parse.specs.Limit.{digitsOf, overLimit}
+use Rattle.decode.specs.declared.reference.Fault.{Fault}
 use Rattle.decode.specs.declared.reference.Record.{Record}
+use Rattle.line_number.specs.LineNumber.{lineNumber, lineTold, untilFeed}
 use Rattle.checks.specs.declared.Refusal.{Refusal}
 use Rattle.checks.specs.declared.Refusal.the-variants.{BadHeader, BadRecord, Unsorted}
 use Rattle.checks.specs.Check.{refusalNumber}
@@ -53,11 +58,23 @@ refusalPlace (BadHeader text) = 0
 refusalPlace (BadRecord place f) = place
 refusalPlace (Unsorted place) = place
 
--- ".. and 2 its text; nothing else is given with a refusal."
-abbrev pub refusalText : Refusal → ℕ
-refusalText (BadHeader text) = text
-refusalText (BadRecord place f) = 0
-refusalText (Unsorted place) = 0
+-- "the true line number (one more than the line feeds before it)": "Check and merge pass the same on for 4", which is 41 to 45. Beside 6 there is the
+-- place alone
+abbrev pub refusalLine : List ℕ → Refusal → ℕ
+refusalLine file (BadHeader text) = 0
+refusalLine file (BadRecord place f) = lineTold file place
+refusalLine file (Unsorted place) = 0
 
-abbrev pub refusalTold : Refusal → Numbered
-refusalTold why = record { number = refusalNumber why; place = refusalPlace why; «text_len» = refusalText why }
+-- ".. and 2 its text"; and for 41 to 45 "the whole line, from that place on, without its ending LF"
+abbrev pub refusalText : List ℕ → Refusal → ℕ
+refusalText file (BadHeader text) = text
+refusalText file (BadRecord place f) = untilFeed (drop place file)
+refusalText file (Unsorted place) = 0
+
+abbrev pub refusalTold : List ℕ → Refusal → Numbered
+refusalTold file why =
+    record { number = refusalNumber why; place = refusalPlace why; line = refusalLine file why; «text_len» = refusalText file why }
+
+-- what the line number is worth: of a file within the size limit it is the true one
+abbrev pub TellsTrue : Type 0
+TellsTrue = (file : List ℕ) (place : ℕ) (f : Fault) → length file ≤ 1073741824 → refusalLine file (BadRecord place f) ≡ lineNumber file place

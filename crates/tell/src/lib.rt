@@ -2,7 +2,7 @@
 ghost use mathlib.Core.Path.{_≡_};
 ghost use Prim.Native.Nat.{_≤_};
 ghost use Rattle.decode.specs.Record.{faultNumber};
-ghost use Rattle.checks.specs.Check.{verdictNumber};
+ghost use Rattle.checks.specs.Check.{refusalNumber, verdictNumber};
 ghost use Rattle.tell.specs.Told.{nameAt, peeledAt, noParts, partsTold, refusalTold};
 use checks::Refusal;
 use checks::Verdict;
@@ -69,44 +69,58 @@ fn peeled_at(place: usize, peeled: usize) -> usize
     place + peeled
 }
 
-// A refusal's number and what stands beside it: a place, or the length of a text; else 0.
+// A refusal's number and what stands beside it: a place, the number of the line that begins there, the length of a text; else 0.
 pub struct Numbered {
     pub number: u32,
     pub place: usize,
+    pub line: u64,
     pub text_len: usize,
 }
 
-// Why a file does not pass the check.
-pub fn refusal(why: Refusal) -> Numbered
-    ensures { λ r. ⌜ r ≡ refusalTold why ⌝ }
+// Why a file does not pass the check. Its lines are counted only up to a record that can't be read.
+pub fn refusal(file: &[u8], why: Refusal) -> Numbered
+    ensures { λ r. ⌜ r ≡ refusalTold (now (file .entry)) why ⌝ }
 {
+    let number = refusal_number(why);
     match why {
-        Refusal::BadHeader(text) => refusal_gives(2, 0, text),
-        Refusal::BadRecord { place, fault } => refusal_gives(fault_number(fault), place, 0),
-        Refusal::Unsorted(place) => refusal_gives(6, place, 0),
+        Refusal::BadHeader(text) => refusal_gives(number, 0, 0, text),
+        Refusal::BadRecord { place, fault: _ } => {
+            let line = line_number::line_number(file, place);
+            refusal_gives(number, place, line, line_number::text_len(file, place))
+        }
+        Refusal::Unsorted(place) => refusal_gives(number, place, 0, 0),
     }
 }
 
-// The number that the check gives.
+fn refusal_gives(number: u32, place: usize, line: u64, text: usize) -> Numbered
+    ensures { λ r. ⌜ r ≡ record { number = number; place = place; line = line; «text_len» = text } ⌝ }
+{
+    Numbered {
+        number,
+        place,
+        line,
+        text_len: text,
+    }
+}
+
+// The number that the check gives. It is told without the file: no line is counted for it.
 pub fn verdict_number(verdict: Verdict) -> u32
     ensures { λ r. ⌜ r ≡ verdictNumber verdict ⌝ }
 {
     match verdict {
         Verdict::Clean(_) => 0,
-        Verdict::Refused(why) => {
-            let told = refusal(why);
-            told.number
-        }
+        Verdict::Refused(why) => refusal_number(why),
     }
 }
 
-fn refusal_gives(number: u32, place: usize, text: usize) -> Numbered
-    ensures { λ r. ⌜ r ≡ record { number = number; place = place; «text_len» = text } ⌝ }
+// The paper's number for a refusal.
+fn refusal_number(why: Refusal) -> u32
+    ensures { λ r. ⌜ r ≡ refusalNumber why ⌝ }
 {
-    Numbered {
-        number,
-        place,
-        text_len: text,
+    match why {
+        Refusal::BadHeader(_) => 2,
+        Refusal::BadRecord { place: _, fault } => fault_number(fault),
+        Refusal::Unsorted(_) => 6,
     }
 }
 

@@ -1,4 +1,4 @@
--- `iterator::first` meets its contract: a walk of its MIR, by hand. The `Iter` that `new` returns is held in a local, lent to `next` for the call, and comes back at the record that `next` left (`Lent.antt`); its place and its number are read.
+-- `iterator::first` meets its contract: a walk of its MIR, by hand. The `Iter` that `new` returns is held in a local, lent to `next` for the call, and comes back at the record that `next` left (`Lent.antt`); its place and its line number are read.
 -- All that the proof knows of `new` and of `next` is that each meets its contract. In a local of a body MIR erases the lifetime of the struct's type, so the value is shown to have the type at `erased`.
 -- Assumes nothing.
 use mathlib.Core.Path.{_≡_, refl, ap}
@@ -122,7 +122,7 @@ module _ {M : Type 1} (𝓤 : URA M) (H : Heap 𝓤) (A : Atoms 𝓤) (W : Given
 
   -- the result: the answer, and where the iteration y stands
   abbrev told : StepAnswer → Iter → Stepped
-  told t y = record { answer = t; place = y .place; item = y .item }
+  told t y = record { answer = t; place = y .place; line = y .line }
 
   exits : (t : StepAnswer) (y : Iter) (u : Val) → (t ≡ answerOf d) × (y ≡ nextIter d) → ent 𝓤 (⋆ 𝓤 H A (‵ (P.the-row .own (told t y) (u ∷ [])) ∷ ‵ (flft κ q) ∷ ‵ (Own d (α κ)) ∷ [])) (Post u)
   exits t y u e =
@@ -164,8 +164,8 @@ module _ {M : Type 1} (𝓤 : URA M) (H : Heap 𝓤) (A : Atoms 𝓤) (W : Given
         assigns ! (of-opd ! (load ! (from ! (fld ! refl (stop !))) (look-in ! 0 (sub ! 3 refl (whole !))))) (from ! (stop !)) (init ! 9 refl (tt, record { fits = fits (zs .0) αⁿ was .0 })) $
         assigns ! (of-opd ! (load ! (from ! (fld ! refl (stop !))) (look-in ! 0 (sub ! 4 refl (whole !))))) (from ! (stop !)) (init ! 7 refl (tt, record { fits = fits (zs .0) αⁿ was .1 })) $
         -- what the result owns
-        move ! (2 ∷ []) $ nothing ! $ owned ! u64 (Is u64) (uint-makes 𝓤 H A W w64) (zs .0 .item) _ (refl, fits (zs .0) αⁿ was .1) $ fjoin ! $ owned ! usize (Is usize) (uint-makes 𝓤 H A W w64) (zs .0 .place) _ (refl, fits (zs .0) αⁿ was .0) $ fjoin ! $ move ! (1 ∷ 0 ∷ []) $ fjoin ! $
-        use1 W (‵ (P.the-row .own (told t (zs .0)) (LL.val P.the-type P′.the-laws (told t (zs .0)) ∷ []))) (own-shut 𝓤 H A W P.the-type P′.the-laws (t, (zs .0 .place, (zs .0 .item, tt)))) $
+        move ! (2 ∷ []) $ nothing ! $ owned ! u64 (Is u64) (uint-makes 𝓤 H A W w64) (zs .0 .line) _ (refl, fits (zs .0) αⁿ was .1) $ fjoin ! $ owned ! usize (Is usize) (uint-makes 𝓤 H A W w64) (zs .0 .place) _ (refl, fits (zs .0) αⁿ was .0) $ fjoin ! $ move ! (1 ∷ 0 ∷ []) $ fjoin ! $
+        use1 W (‵ (P.the-row .own (told t (zs .0)) (LL.val P.the-type P′.the-laws (told t (zs .0)) ∷ []))) (own-shut 𝓤 H A W P.the-type P′.the-laws (t, (zs .0 .place, (zs .0 .line, tt)))) $
         peeks ! P.the-row (Is P.the-row) (shows 𝓤 H A P.the-row) (told t (zs .0)) (LL.val P.the-type P′.the-laws (told t (zs .0)) ∷ []) (λ is′.
         assigns ! (agg ! (and-then ! (load ! (from ! (stop !)) (look ! 15 refl)) (and-then ! (load ! (from ! (stop !)) (look ! 9 refl)) (and-then ! (load ! (from ! (stop !)) (look ! 7 refl)) (no-more !))))) (from ! (stop !)) (init ! 28 refl (LL.lawful P.the-type P′.the-laws 𝓤 H A W .typed (told t (zs .0)) _ is′ .0)) $
         returns ! (look ! 28 refl) $ forget ! 1 refl $ forget ! 7 refl $ forget ! 9 refl $ forget ! 11 refl $ forget ! 13 refl $ forget ! 15 refl $ forget ! 18 refl $ forget ! 20 refl $ forget ! 22 refl $ forget ! 24 refl $ forget ! 26 refl $ forget ! 28 refl $

@@ -1,4 +1,4 @@
--- `iterator::next` meets its contract: a walk of its MIR, by hand. The borrow is opened, `step` is called on what the struct holds, the place and the number that it returned are stored in the struct, and the borrow is closed at the new record.
+-- `iterator::next` meets its contract: a walk of its MIR, by hand. The borrow is opened, `step` is called on what the struct holds, the place and the line number that it returned are stored in the struct, and the borrow is closed at the new record.
 -- The struct is Copy: what it owns is had twice, one copy goes to the callee, and the other is kept for the record that the borrow is closed at. All that the proof knows of `step` is that it meets its contract.
 -- Assumes nothing.
 use mathlib.Core.Path.{_≡_, refl, ap}
@@ -44,7 +44,7 @@ use denote.Triple.Table.{entered, cited}
 use denote.Triple.Walked.{says, Stays, stay-ref, walkOf, goes-ref, Walks, ends-at, walked, walk-meets}
 use Rattle.iterator.specs.declared.Iter.{Iter}
 use Rattle.iterator.specs.declared.Stepped.{Stepped}
-use Rattle.iterator.specs.Next.{answerOf, steppedFrom}
+use Rattle.iterator.specs.Next.{steppedFrom, taken}
 use Rattle.iterator.proofs.Iter as T
 use Rattle.iterator.proofs.Iter.Laws as T′
 use Rattle.iterator.proofs.Stepped as P
@@ -97,18 +97,18 @@ module _ {M : Type 1} (𝓤 : URA M) (H : Heap 𝓤) (A : Atoms 𝓤) (W : Given
 
   -- the iteration with what `step` returned stored
   abbrev after : Stepped → Iter
-  after t = record { kind = h .kind; s = h .s; prefix = h .prefix; place = t .place; item = t .item }
+  after t = record { kind = h .kind; s = h .s; prefix = h .prefix; place = t .place; line = t .line }
 
   -- what is known of the numbers that `step` returned
-  fits : (t : Stepped) (w : Val) → Is P.the-row t (w ∷ []) → (t .place < 2 ^ 64) × (t .item < 2 ^ 64)
+  fits : (t : Stepped) (w : Val) → Is P.the-row t (w ∷ []) → (t .place < 2 ^ 64) × (t .line < 2 ^ 64)
   fits t w is = let f = LL.owed P.the-type P′.the-laws t (w ∷ []) is in (f .1 .0 .1, f .1 .1 .0 .1)
 
-  -- what the fields that stay own is kept, and the facts of the place and of the number are made anew
-  again : (t : Stepped) → t .place < 2 ^ 64 → t .item < 2 ^ 64 → ent 𝓤 (sem 𝓤 H A (Own h α)) (sem 𝓤 H A (Own (after t) α))
+  -- what the fields that stay own is kept, and the facts of the place and of the line number are made anew
+  again : (t : Stepped) → t .place < 2 ^ 64 → t .line < 2 ^ 64 → ent 𝓤 (sem 𝓤 H A (Own h α)) (sem 𝓤 H A (Own (after t) α))
   again t fits fits′ =
-      let placed : Iter = record { kind = h .kind; s = h .s; prefix = h .prefix; place = t .place; item = h .item } in
+      let placed : Iter = record { kind = h .kind; s = h .s; prefix = h .prefix; place = t .place; line = h .line } in
       qed W (‵ (Own h α) ∷ []) ∵ owned ! usize (Is usize) (uint-makes 𝓤 H A W w64) (t .place) _ (refl, fits) $ move ! (1 ∷ 0 ∷ []) $ use2 W (‵ (Own placed α)) (own-put 𝓤 H A W D L 3 (values h α) (t .place) (T′.lowered h)) $
-      owned ! u64 (Is u64) (uint-makes 𝓤 H A W w64) (t .item) _ (refl, fits′) $ move ! (1 ∷ 0 ∷ []) $ by ! (own-put 𝓤 H A W D L 4 (values placed α) (t .item) (T′.lowered placed))
+      owned ! u64 (Is u64) (uint-makes 𝓤 H A W w64) (t .line) _ (refl, fits′) $ move ! (1 ∷ 0 ∷ []) $ by ! (own-put 𝓤 H A W D L 4 (values placed α) (t .line) (T′.lowered placed))
 
   -- the call
   abbrev to : Stepping 𝓤 H A at-mem run .Ghost
@@ -119,7 +119,7 @@ module _ {M : Type 1} (𝓤 : URA M) (H : Heap 𝓤) (A : Atoms 𝓤) (W : Given
 
   -- of the callee's `ensured`, the clause alone: it has no `&mut`, so what is said of last values is dropped
   abbrev found : Stepped
-  found = steppedFrom (h .place) (h .item) (answerOf h)
+  found = steppedFrom (h .place) (h .line) (taken h)
 
   said : (t : Stepped) → ent 𝓤 (ensured 𝓤 H A step.ended (step.clauses 𝓤 H A at-mem run) (κ′, tt) (values h α) tt t) (fact 𝓤 (t ≡ found))
   said t = exE 𝓤 _ (λ ws. snd∗ 𝓤 (sem 𝓤 H A (lasts step.ended (κ′, tt) (values h α) ws)) (fact 𝓤 (t ≡ found)))
@@ -155,13 +155,13 @@ module _ {M : Type 1} (𝓤 : URA M) (H : Heap 𝓤) (A : Atoms 𝓤) (W : Given
         -- [the result; the token; what an Iter owns; the struct's cell; the open borrow; obs; auth; …; _7; …; _6; …; _5; …; _4; …; _3; …; _2; …; _1; …; room for _0; …]
         peeks ! P.the-row (Is P.the-row) (shows 𝓤 H A P.the-row) t (w ∷ []) (λ is. land ! (from ! (stop !)) (init ! 18 refl (LL.lawful P.the-type P′.the-laws 𝓤 H A W .typed t _ is .0)) $
         -- its fields' values, and of what it owns what the answer owns
-        use1 W (given (w ∷ [] ≡ LL.val P.the-type P′.the-laws t ∷ []) (‵ (all-own (P.the-type .parts) P′.the-laws (t .answer, (t .place, (t .item, tt)))))) (own-open 𝓤 H A W P.the-type P′.the-laws (t .answer, (t .place, (t .item, tt))) w) $ learn ! (λ spells.
+        use1 W (given (w ∷ [] ≡ LL.val P.the-type P′.the-laws t ∷ []) (‵ (all-own (P.the-type .parts) P′.the-laws (t .answer, (t .place, (t .line, tt)))))) (own-open 𝓤 H A W P.the-type P′.the-laws (t .answer, (t .place, (t .line, tt))) w) $ learn ! (λ spells.
         rewrite ! 18 (λ (u : Val). ‵ (fat fullShare P′.mir l₂ 0 u)) (ap only spells) refl $ fsplit ! $ move ! (1 ∷ []) $ drop ! $
         peeks ! S.the-row (Is S.the-row) (shows 𝓤 H A S.the-row) (t .answer) _ (λ answers.
         assigns ! (of-opd ! (load ! (from ! (fld ! refl (stop !))) (look-in ! 18 (sub ! 1 refl (whole !))))) (from ! (hop ! (look ! 20 refl) (fld ! refl (stop !)))) (store-in ! 3 (sub ! 3 refl (whole !)) (tt, record { fits = fits t w is .0 })) $
         assigns ! (of-opd ! (load ! (from ! (fld ! refl (stop !))) (look-in ! 18 (sub ! 2 refl (whole !))))) (from ! (hop ! (look ! 20 refl) (fld ! refl (stop !)))) (store-in ! 3 (sub ! 4 refl (whole !)) (tt, record { fits = fits t w is .1 })) $
         assigns ! (of-opd ! (load ! (from ! (fld ! refl (stop !))) (look-in ! 18 (sub ! 0 refl (whole !))))) (from ! (stop !)) (init ! 22 refl (EL.lawful S.the-type S′.the-laws 𝓤 H A W tt .typed (t .answer) _ answers .0)) $
-        -- the borrow is closed at the record with the new place and number
+        -- the borrow is closed at the record with the new place and line number
         move ! (2 ∷ []) $ use1 W (‵ (Own (after t) α)) (again t (fits t w is .0) (fits t w is .1)) $
         move ! (3 ∷ []) $ use1 W (‵ (cellAt fullShare (B .mir) (T′.lowered (after t) ∷ []) b o)) (W .laws .at-raw fullShare (T′.mir erased) b o (T′.lowered (after t))) $
         move ! (0 ∷ 1 ∷ 4 ∷ 5 ∷ 6 ∷ []) $ closes ! tt B (after t) (T′.lowered (after t) ∷ []) b o $

@@ -20,7 +20,8 @@ same-length-2 c = search needs
 returns : tie.Need-returns
 returns c =
     let m = c .before .before .before .before .before in
-    (c .merge-told .ensures ∙ ap mergeReply (m .merge .ensures .0), (m .merge .ensures .1 .0, m .merge .ensures .1 .1))
+    let a = m .before .before .before .before .before .before .before .args in
+    (c .merge-told .ensures ∙ ap (mergeReply (a .old .now)) (m .merge .ensures .0), (m .merge .ensures .1 .0, m .merge .ensures .1 .1))
 
 pub merge-reply-spec : {M : Type 1} → statement M
 merge-reply-spec =

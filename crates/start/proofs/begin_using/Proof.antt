@@ -15,8 +15,8 @@ enum-known-text c = search needs
 enum-known-h : tie.Need-enum-known-h
 enum-known-h c = search needs
 
-first-item-requires : tie.Need-first-item-requires
-first-item-requires c κs = search needs
+start-line-requires : tie.Need-start-line-requires
+start-line-requires c κs = search needs
 
 returns : tie.Need-returns
 unfolding startOf
@@ -26,9 +26,9 @@ returns-2 : tie.Need-returns-2
 unfolding startOf
 returns-2 c =
     let o = c .before .before .before .before in
-    rw (sym (o .open .ensures) ∙ c .before .before .h .given .1) (ap (At (c .before .before .h .given .0 .0 .body)) (c .first-item .ensures))
+    rw (sym (o .open .ensures) ∙ c .before .before .h .given .1) (ap (At (c .before .before .h .given .0 .0 .body)) (c .start-line .ensures))
 
 pub begin-using-spec : {M : Type 1} → statement M
 begin-using-spec =
     tie.close
-    (tie.spec open-requires enum-known-text enum-known-h first-item-requires returns returns-2)
+    (tie.spec open-requires enum-known-text enum-known-h start-line-requires returns returns-2)

@@ -126,7 +126,7 @@ impl<'a> EditLines<'a> {
     fn refused(&self, line: usize, reason: Reason, what: &str) -> Refusal {
         let row = reason.row();
         let words = format!("{}, line {line}: number {}: {what}. {} {}", self.input.name, row.number, row.sender, row.person);
-        Refusal { number: Some(row.number), file: Some(self.input.given.clone()), line: Some(line), ..Refusal::new(words) }
+        Refusal { number: Some(row.number), file: Some(self.input.given.clone()), line: Some(line as u64), ..Refusal::new(words) }
     }
 }
 

@@ -103,11 +103,6 @@ impl Input {
         (self.given != "-").then(|| Path::new(&self.given))
     }
 
-    /// The line that a place lies in, counted from 1.
-    pub fn line(&self, place: usize) -> usize {
-        line_feeds(&self.bytes[..place]) + 1
-    }
-
     /// Whether it is that very file, by whatever name, or from standard input.
     pub fn is_file(&self, path: &Path) -> bool {
         let same = |about: io::Result<Metadata>| match (about, std::fs::metadata(path)) {
@@ -124,10 +119,6 @@ impl Input {
     pub fn real_path(&self) -> Option<PathBuf> {
         self.path().and_then(|path| path.canonicalize().ok())
     }
-}
-
-pub fn line_feeds(bytes: &[u8]) -> usize {
-    bytes.iter().filter(|b| **b == b'\n').count()
 }
 
 /// Standard input. Where it is a regular file it is seen at the end whether the file was changed meanwhile; it can't be read anew.

@@ -12,6 +12,7 @@ mod input;
 mod items;
 mod json;
 mod kind;
+mod line;
 mod names;
 mod nested;
 mod output;

@@ -35,7 +35,7 @@ pub fn all<'a>(words: &'a [OsString], file: Option<&'a Input>, settings: &Settin
 }
 
 fn cut(file: &Input, end: &str) -> Refusal {
-    let line = file.line(file.bytes.len());
+    let line = file.bytes.iter().filter(|b| **b == b'\n').count() as u64 + 1;
     let words = format!("{}, line {line}: no {end} ends the last name: the list may have been cut short, and nothing was asked", file.name);
     Refusal { file: Some(file.given.clone()), line: Some(line), ..Refusal::new(words) }
 }

@@ -80,7 +80,7 @@ fn refusal(lines: &EditLines<'_>, line: usize, directory: &[u8], name: &[u8]) ->
         Quoted(directory),
         Quoted(name)
     );
-    Refusal { file: Some(lines.input.given.clone()), line: Some(line), ..Refusal::new(words) }
+    Refusal { file: Some(lines.input.given.clone()), line: Some(line as u64), ..Refusal::new(words) }
 }
 
 #[cfg(test)]

@@ -2,6 +2,7 @@
 use crate::args::Settings;
 use crate::descriptors;
 use crate::json::Object;
+use crate::line::Line;
 use crate::refusal::Refusal;
 use std::fmt;
 use std::fs::File;
@@ -24,16 +25,21 @@ impl Write for Stream {
     }
 }
 
+/// So much is gathered before it is written.
+const GATHERED: usize = 1 << 16;
+
 /// The way out, as the options have it.
 pub struct Out {
     to: BufWriter<Stream>,
+    line: Line,
     pub is_json: bool,
     pub is_quiet: bool,
 }
 
 impl Out {
     pub fn new(settings: &Settings) -> Out {
-        Out { to: BufWriter::new(Stream::default()), is_json: settings.json, is_quiet: settings.quiet }
+        let (to, line) = (BufWriter::with_capacity(GATHERED, Stream::default()), Line::default());
+        Out { to, line, is_json: settings.json, is_quiet: settings.quiet }
     }
 
     /// An answer: a line of words or of JSON, or nothing with --quiet.
@@ -42,6 +48,18 @@ impl Out {
             (true, _) => Ok(()),
             (false, true) => self.object(object()),
             (false, false) => writeln!(self.to, "{words}"),
+        }
+    }
+
+    /// The same with a line that is put together piece by piece, where there may be very many of them.
+    pub fn line(&mut self, put: impl FnOnce(&mut Line), object: impl FnOnce() -> Object) -> io::Result<()> {
+        match (self.is_quiet, self.is_json) {
+            (true, _) => Ok(()),
+            (false, true) => self.object(object()),
+            (false, false) => {
+                put(self.line.clear());
+                self.to.write_all(self.line.end())
+            }
         }
     }
 

@@ -1,46 +1,107 @@
 //! Which name rule a name breaks, in words.
+use packed_refs::IdKind;
 
 /// A rule of Git's page git-check-ref-format, with at least one slash, that a name breaks. The library has refused the name; this says why, and
 /// decides nothing.
 pub fn broken(name: &[u8]) -> &'static str {
-    let has = |part: &[u8]| name.windows(part.len()).any(|window| window == part);
-    let components = || name.split(|b| *b == b'/');
+    let holds = Held::by(name);
     if name.is_empty() {
         "it is empty"
-    } else if name.contains(&b' ') {
+    } else if holds.space {
         "it holds a space"
-    } else if name.iter().any(|b| *b < 32 || *b == 127) {
+    } else if holds.control {
         "it holds a control byte"
-    } else if name.iter().any(|b| b"~^:?*[\\".contains(b)) {
+    } else if holds.mark {
         "it holds one of ~ ^ : ? * [ \\"
     } else if name.starts_with(b"/") {
         "it begins with a slash"
     } else if name.ends_with(b"/") {
         "it ends with a slash"
-    } else if has(b"//") {
+    } else if holds.two_slashes {
         "it holds two slashes in a row"
-    } else if components().any(|component| component.starts_with(b".")) {
+    } else if holds.dot_in_front {
         "a part of it begins with a dot"
-    } else if has(b"..") {
+    } else if holds.two_dots {
         "it holds two dots in a row"
     } else if name.ends_with(b".") {
         "it ends with a dot"
-    } else if components().any(|component| component.ends_with(b".lock")) {
+    } else if holds.lock_at_the_end {
         "a part of it ends with .lock"
-    } else if has(b"@{") {
+    } else if holds.at_brace {
         "it holds @{"
-    } else if !name.contains(&b'/') {
+    } else if !holds.slash {
         "it has no slash"
     } else {
         "it breaks the name rules"
     }
 }
 
-/// The name in a record's line: what stands between its first space and its line end. Of such a line the library has said that only the name is bad.
+/// What stands in a name, seen in one pass: a report may have a million of them.
+#[derive(Default)]
+struct Held {
+    space: bool,
+    control: bool,
+    mark: bool,
+    slash: bool,
+    two_slashes: bool,
+    /// Of the name or of a part.
+    dot_in_front: bool,
+    two_dots: bool,
+    /// Of the name or of a part.
+    lock_at_the_end: bool,
+    at_brace: bool,
+}
+
+/// The bytes that a rule speaks of. All others are passed over.
+const SPOKEN_OF: [bool; 256] = {
+    let mut spoken = [false; 256];
+    let mut byte = 0;
+    while byte < 32 {
+        spoken[byte] = true;
+        byte += 1;
+    }
+    let mut at = 0;
+    let others = b" ~^:?*[\\/.{\x7f";
+    while at < others.len() {
+        spoken[others[at] as usize] = true;
+        at += 1;
+    }
+    spoken
+};
+
+impl Held {
+    fn by(name: &[u8]) -> Held {
+        let mut held = Held { lock_at_the_end: name.ends_with(b".lock"), ..Held::default() };
+        for (at, b) in name.iter().enumerate().filter(|(_, b)| SPOKEN_OF[**b as usize]) {
+            // a name begins as a part does
+            let before = if at == 0 { b'/' } else { name[at - 1] };
+            match *b {
+                b' ' => held.space = true,
+                b'~' | b'^' | b':' | b'?' | b'*' | b'[' | b'\\' => held.mark = true,
+                b'/' => {
+                    held.slash = true;
+                    held.two_slashes |= before == b'/';
+                    held.lock_at_the_end |= before == b'k' && name[..at].ends_with(b".lock");
+                }
+                b'.' => {
+                    held.dot_in_front |= before == b'/';
+                    held.two_dots |= before == b'.';
+                }
+                b'{' => held.at_brace |= before == b'@',
+                _ => held.control = true,
+            }
+        }
+        held
+    }
+}
+
+/// The name in a record's line without its LF: what stands between the space behind its id and its line end. Of such a line the library has said that only
+/// the name is bad.
 pub fn name_in(line: &[u8]) -> &[u8] {
-    let end = line.iter().position(|b| *b == b'\r' || *b == b'\n').unwrap_or(line.len());
-    let from = line[..end].iter().position(|b| *b == b' ').map_or(end, |space| space + 1);
-    &line[from..end]
+    let line = line.strip_suffix(b"\r").unwrap_or(line);
+    let spaces = [IdKind::Sha1, IdKind::Sha256].map(IdKind::digits);
+    let space = spaces.into_iter().find(|at| line.get(*at) == Some(&b' '));
+    space.map_or(&[], |at| &line[at + 1..])
 }
 
 #[cfg(test)]
@@ -70,14 +131,11 @@ mod tests {
 
     #[test]
     fn a_name_is_cut_out_of_its_line() {
-        for (line, name) in [
-            ("11 refs/a.\n^22\n", "refs/a."),
-            ("11 refs/a.\r", "refs/a."),
-            ("11  refs/a b", " refs/a b"),
-            ("11 \r\n22 b\n", ""),
-            ("11", ""),
-        ] {
-            assert_eq!(name_in(line.as_bytes()), name.as_bytes(), "{line:?}");
+        for id in ["1".repeat(40), "2".repeat(64)] {
+            for (behind, name) in [(" refs/a.", "refs/a."), (" refs/a.\r", "refs/a."), ("  refs/a b", " refs/a b"), (" \r", ""), ("", "")] {
+                let line = format!("{id}{behind}");
+                assert_eq!(name_in(line.as_bytes()), name.as_bytes(), "{line:?}");
+            }
         }
     }
 }

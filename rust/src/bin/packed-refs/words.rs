@@ -39,6 +39,11 @@ pub fn shown(path: &OsStr) -> String {
     }
 }
 
+/// A file, and the line in it where that is known.
+pub fn on_line(name: &str, line: Option<u64>) -> String {
+    line.map_or(name.to_string(), |line| format!("{name}, line {line}"))
+}
+
 /// `1 record`, `2 records`.
 pub fn count(number: usize, what: &str) -> String {
     if number == 1 {

@@ -20,8 +20,8 @@ begin-using-requires c κs = search needs
 enum-known-behind : tie.Need-enum-known-behind
 enum-known-behind c = search needs
 
-add-t11 : tie.Need-add-t11
-add-t11 c =
+add-t10 : tie.Need-add-t10
+add-t10 c =
     let b = c .before .before .before in
     let a = b .before .before .before .args in
     let byte = classesOf (a .t .now) in
@@ -52,7 +52,7 @@ begin-from-spec =
     between-requires
     begin-using-requires
     enum-known-behind
-    add-t11
+    add-t10
     enum-known-text
     returns
     returns-2)

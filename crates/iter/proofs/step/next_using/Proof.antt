@@ -1,17 +1,15 @@
 -- `iter::step::next_using` meets its contract.
-use mathlib.Core.Path.{_≡_, sym, ap, _∙_}
+use mathlib.Core.Path.{_≡_, refl, sym, ap, _∙_}
 use mathlib.Core.List.{List}
-use Prim.Native.Nat.{ℕ, _+_, _-_}
+use Prim.Native.Nat.{ℕ}
 use native.Mathlib.Omega.{arith}
 use borrow.Author.Tests.{not-true, not-false}
 use lib.ListN.{drop, length-drop}
 use Rattle.class.specs.Class.{Classes, classesOf}
-use Rattle.parse.specs.Line.{lineLen}
 use Rattle.compare.specs.Prefix.{begins}
-use Rattle.parse.proofs.Fronts.{lineLen-some}
+use Rattle.line_number.proofs.Feeds.{until-le, line-behind}
 use Rattle.decode.specs.declared.reference.Record.{Record}
 use Rattle.decode.specs.declared.reference.Reading.the-variants as reading
-use Rattle.iter.specs.declared.step.Step.the-variants.{Good}
 use Rattle.iter.proofs.ItemRead.{Reads, reads, told, goes-on, named, named-is}
 use Rattle.iter.proofs.Steps.{step-end, step-other, step-good, step-error, error-alike}
 use borrow.Author.Needs.{needs}
@@ -66,7 +64,7 @@ module _ (q : tie.After-begins-with) where
 returns : tie.Need-returns
 returns c =
     let b = c .before .before .before in
-    sym (step-end (byte b) (n b) (prefix b) (file b) (place b) (b .args .item) (c .if1 .taken))
+    sym (step-end (byte b) (n b) (prefix b) (file b) (place b) (b .args .line) (c .if1 .taken))
 
 sub-rest : tie.Need-sub-rest
 sub-rest c = search needs
@@ -93,38 +91,31 @@ returns-2 : tie.Need-returns-2
 returns-2 c =
     let f = of-record (c .before) in
     let b = its-start f in
-    sym (step-other (byte b) (n b) (prefix b) (file b) (place b) (b .args .item) (is-record f .inside) (it f) (is-record f .is) (begins-is (c .before) ∙ not-true _ (c .if2 .taken)))
+    sym (step-other (byte b) (n b) (prefix b) (file b) (place b) (b .args .line) (is-record f .inside) (it f) (is-record f .is) (begins-is (c .before) ∙ not-true _ (c .if2 .taken)))
 
 add-t22 : tie.Need-add-t22
 add-t22 c = let f = of-record (c .before .before) in omega (arith, goes-on (is-record f), its-start f .good)
 
-one-more-requires : tie.Need-one-more-requires
-one-more-requires c κs = search needs
-
 enum-known-fault : tie.Need-enum-known-fault
 enum-known-fault c = search needs
 
-line-end-requires : tie.Need-line-end-requires
-line-end-requires c κs = search needs
+text-len-requires : tie.Need-text-len-requires
+text-len-requires c κs = search needs
 
-sub-t24 : tie.Need-sub-t24
-sub-t24 c = search needs
-
-sub-t25 : tie.Need-sub-t25
-sub-t25 c =
+add-behind : tie.Need-add-behind
+add-behind c =
     let b = start (c .before .before .before .before) in
-    omega (arith, c .line-end .ensures, lineLen-some (drop (place b) (file b)) (omega (arith, length-drop (place b) (file b))))
+    omega (arith, c .text-len .ensures, until-le (drop (place b) (file b)), length-drop (place b) (file b), b .good)
 
-one-more-requires-2 : tie.Need-one-more-requires-2
-one-more-requires-2 c κs = search needs
+behind-requires : tie.Need-behind-requires
+behind-requires c κs = search needs
 
 returns-3 : tie.Need-returns-3
 returns-3 c =
-    let g = c .before .before in
-    let f = of-record (g .before) in
+    let e = c .before in
+    let f = of-record (e .before) in
     let b = its-start f in
-    ap (Good (it f) (place b + it f .size)) (c .one-more .ensures)
-    ∙ sym (step-good (byte b) (n b) (prefix b) (file b) (place b) (b .args .item) (is-record f .inside) (it f) (is-record f .is) (begins-is (g .before) ∙ not-false _ (g .if2 .left)))
+    sym (step-good (byte b) (n b) (prefix b) (file b) (place b) (b .args .line) (is-record f .inside) (it f) (is-record f .is) (begins-is (e .before) ∙ not-false _ (e .if2 .left)))
 
 returns-4 : tie.Need-returns-4
 returns-4 c =
@@ -132,9 +123,9 @@ returns-4 c =
     let f = e .before .before in
     let bad = told (is-read (f .before .before)) (f .fault .given .1) in
     let b = start (f .before .before) in
-    let text : e .line-end .result - place b - 1 ≡ lineLen (drop (place b) (file b)) - 1 = omega (arith, e .line-end .ensures) in
-    error-alike text (e .line-end .ensures) (c .one-more2 .ensures)
-    ∙ sym (step-error (byte b) (n b) (prefix b) (file b) (place b) (b .args .item) (bad .inside) (f .fault .given .0 .0) (bad .is))
+    error-alike refl (e .text-len .ensures)
+    (c .behind .ensures ∙ rw (e .text-len .ensures) (line-behind (file b) (place b) (omega (arith, bad .inside))))
+    ∙ sym (step-error (byte b) (n b) (prefix b) (file b) (place b) (b .args .line) (bad .inside) (f .fault .given .0 .0) (bad .is))
 
 pub next-using-spec : {M : Type 1} → statement M
 next-using-spec =
@@ -150,11 +141,9 @@ next-using-spec =
     begins-with-requires
     returns-2
     add-t22
-    one-more-requires
     enum-known-fault
-    line-end-requires
-    sub-t24
-    sub-t25
-    one-more-requires-2
+    text-len-requires
+    add-behind
+    behind-requires
     returns-3
     returns-4)

@@ -12,7 +12,7 @@ check-told-requires : tie.Need-check-told-requires
 check-told-requires c κs = search needs
 
 returns : tie.Need-returns
-returns c = c .check-told .ensures ∙ ap checkReply (c .before .check .ensures)
+returns c = c .check-told .ensures ∙ ap (checkReply (c .before .before .before .args .file .now)) (c .before .check .ensures)
 
 pub check-reply-spec : {M : Type 1} → statement M
 check-reply-spec = tie.close (tie.spec check-requires check-told-requires returns)

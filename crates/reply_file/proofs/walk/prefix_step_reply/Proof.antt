@@ -15,7 +15,7 @@ next-with-prefix-requires : tie.Need-next-with-prefix-requires
 next-with-prefix-requires c κs = search needs
 
 step-told-requires : tie.Need-step-told-requires
-step-told-requires c κs = λ r next nextItem e. step-near (start c .args .kind) (start c .args .prefix .now) (start c .args .bytes .now) (start c .args .place) (start c .args .item) (sym (c .next-with-prefix .ensures) ∙ e)
+step-told-requires c κs = λ r next e. step-near (start c .args .kind) (start c .args .prefix .now) (start c .args .bytes .now) (start c .args .place) 0 (sym (c .next-with-prefix .ensures) ∙ e)
 
 returns : tie.Need-returns
 returns c = c .step-told .ensures ∙ ap (stepReply (start (c .before) .args .kind) (start (c .before) .args .place)) (c .before .next-with-prefix .ensures)

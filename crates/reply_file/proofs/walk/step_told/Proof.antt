@@ -15,8 +15,8 @@ module _ (k : tie.After-known-told) where
   abbrev start : tie.Start
   start = k .before .before .before .before
 
-  near : {r : Record} {next nextItem : ℕ} → k .before .answer .given .0 .0 ≡ Good r next nextItem → Near (start .args .place) r
-  near {r} {next} {nextItem} e = start .pre r next nextItem (k .before .answer .given .1 ∙ ap Done e)
+  near : {r : Record} {next : ℕ} → k .before .answer .given .0 .0 ≡ Good r next → Near (start .args .place) r
+  near {r} {next} e = start .pre r next (k .before .answer .given .1 ∙ ap Done e)
 
 no-parts-requires : tie.Need-no-parts-requires
 no-parts-requires c κs = search needs

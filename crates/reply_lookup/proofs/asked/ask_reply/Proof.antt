@@ -18,7 +18,7 @@ ask-told-requires : tie.Need-ask-told-requires
 ask-told-requires c κs = λ place r v e. ask-near (start c .args .kind) (start c .args .file .now) (start c .args .name .now) (sym (c .ask .ensures) ∙ e)
 
 returns : tie.Need-returns
-returns c = c .ask-told .ensures ∙ ap (askReply (start (c .before) .args .kind)) (c .before .ask .ensures)
+returns c = c .ask-told .ensures ∙ ap (askReply (start (c .before) .args .kind) (start (c .before) .args .file .now)) (c .before .ask .ensures)
 
 pub ask-reply-spec : {M : Type 1} → statement M
 ask-reply-spec = tie.close (tie.spec ask-requires ask-told-requires returns)

@@ -14,7 +14,7 @@ use Rattle.reply_lookup.proofs.asked.ask_told.Tie as tie
 -- where it is a record, its places fit
 module _ (k : tie.After-known-told) where
   near : {place : ℕ} {r : Record} {v : Verdict} → k .before .answer .given .0 .0 ≡ Charted place r v → Near place r
-  near {place} {r} {v} e = k .before .before .before .before .pre place r v (k .before .answer .given .1 ∙ ap Done e)
+  near {place} {r} {v} e = k .before .before .before .before .before .pre place r v (k .before .answer .given .1 ∙ ap Done e)
 
 no-parts-requires : tie.Need-no-parts-requires
 no-parts-requires c κs = search needs

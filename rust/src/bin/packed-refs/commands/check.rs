@@ -16,7 +16,7 @@ pub fn run(settings: &Settings, words: &[OsString], out: &mut Out) -> Ended {
     let [file] = words else { return Trouble::usage("check wants one FILE") };
     let input = Input::table(file, settings)?;
     let judged = judge(settings.kind, &input)?;
-    let table = judged.check.map_err(|error| Refusal::of(&input, "", &error))?;
+    let table = judged.check.map_err(|error| Refusal::of(judged.kind, &input, "", &error))?;
     let passed = || {
         let object = Object::new("passed").number("status", 0u32).number("number", 0u32).bytes("file", input.given.as_bytes());
         object

@@ -3,12 +3,14 @@ use super::Ended;
 use crate::args::Settings;
 use crate::beside;
 use crate::input::Input;
-use crate::items::{all_items, damaged_object, shown};
+use crate::items::{all_items, damaged_object, put_bad_part, put_text};
 use crate::json::Object;
 use crate::kind::judge;
+use crate::line::Line;
 use crate::output::Out;
 use crate::progress::Progress;
 use crate::refusal::{Refusal, Trouble};
+use crate::words::on_line;
 use crate::Status;
 use packed_refs::{Checked, Error, Escaped, IdKind, Record};
 use std::ffi::OsString;
@@ -28,7 +30,8 @@ pub fn run(settings: &Settings, words: &[OsString], out: &mut Out) -> Ended {
     }
     let input = Input::table(file, settings)?;
     let judged = judge(settings.kind, &input)?;
-    let mut listing = Listing { input: &input, prefix, nul: settings.nul, out, listed: 0 };
+    let kind = judged.kind;
+    let mut listing = Listing { input: &input, kind, prefix, nul: settings.nul, out, listed: 0 };
     match judged.check {
         Ok(table) => match listing.checked(&table) {
             Err(Trouble::Gone) => {
@@ -38,14 +41,15 @@ pub fn run(settings: &Settings, words: &[OsString], out: &mut Out) -> Ended {
             ended => ended.map(|()| Status::Done),
         },
         Err(error) => {
-            listing.damaged(judged.kind)?;
-            Err(Refusal::of(&input, "only what can be read is listed: ", &error).into())
+            listing.damaged()?;
+            Err(Refusal::of(kind, &input, "only what can be read is listed: ", &error).into())
         }
     }
 }
 
 struct Listing<'a> {
     input: &'a Input,
+    kind: IdKind,
     prefix: &'a [u8],
     nul: bool,
     out: &'a mut Out,
@@ -72,9 +76,9 @@ impl Listing<'_> {
 
     /// Damage can be everywhere: its words are gathered, as the records are. If they can't be written, the status still says it; if nobody reads the
     /// records, nobody is told.
-    fn damaged(&mut self, kind: IdKind) -> Result<(), Trouble> {
+    fn damaged(&mut self) -> Result<(), Trouble> {
         let mut err = BufWriter::new(io::stderr());
-        let ended = self.all(kind, &mut err).and_then(|()| Ok(self.out.flush()?));
+        let ended = self.all(&mut err).and_then(|()| Ok(self.out.flush()?));
         match ended {
             Err(Trouble::Gone) => drop(err.into_parts()),
             _ => drop(err.flush()),
@@ -82,15 +86,19 @@ impl Listing<'_> {
         ended
     }
 
-    fn all(&mut self, kind: IdKind, err: &mut impl Write) -> Result<(), Trouble> {
-        for item in all_items(kind, &self.input.bytes).map_err(|error| self.too_large(&error))? {
+    fn all(&mut self, err: &mut impl Write) -> Result<(), Trouble> {
+        let mut words = Line::default();
+        for item in all_items(self.kind, &self.input.bytes).map_err(|error| self.too_large(&error))? {
             match item {
                 Ok(record) if record.name.starts_with(self.prefix) => self.record(&record)?,
                 Ok(_) => {}
                 Err(damage) => {
-                    let _ = writeln!(err, "packed-refs: {}: not listed: {}", self.input.name, shown(&damage));
+                    words.clear().text("packed-refs: ").text(&on_line(&self.input.name, damage.line));
+                    put_bad_part(words.text(": not listed: number ").number(damage.reason.number().into()).text(": "), &damage);
+                    put_text(words.text("; it starts at byte ").number(damage.place as u64).text(": "), damage.text);
+                    let _ = err.write_all(words.end());
                     if self.out.is_json {
-                        self.out.object(damaged_object(&damage, None))?;
+                        self.out.object(damaged_object(&damage))?;
                     }
                 }
             }
@@ -120,6 +128,6 @@ impl Listing<'_> {
 
     /// Only a prefix can be too large: the file is not, since it was read.
     fn too_large(&self, error: &Error) -> Refusal {
-        Refusal::of(self.input, "the prefix: ", error)
+        Refusal::of(self.kind, self.input, "the prefix: ", error)
     }
 }

@@ -55,7 +55,7 @@ struct Asking<'a, 'o> {
 
 impl<'a, 'o> Asking<'a, 'o> {
     fn new(settings: &Settings, input: &'a Input, judged: &'a Judged<'a>, out: &'o mut Out) -> Asking<'a, 'o> {
-        let fault = judged.check.as_ref().err().map(|error| Fault::of(input, error));
+        let fault = judged.check.as_ref().err().map(|error| Fault::of(judged.kind, input, error));
         let least = settings.records.unwrap_or(0);
         Asking { input, judged, fault, least, out, worst: Status::Done, some_absent: false, is_warned: false }
     }
@@ -91,7 +91,7 @@ impl<'a, 'o> Asking<'a, 'o> {
                 Status::Done
             }
             Ok(Asked::Absent) => self.absent(name)?,
-            Err(error) => self.refuse(Refusal::of_name(self.input, self.fault.as_ref(), name, &error))?,
+            Err(error) => self.refuse(Refusal::of_name(self.judged.kind, self.input, self.fault.as_ref(), name, &error))?,
         };
         self.worst = self.worst.max(status);
         Ok(())

@@ -33,7 +33,7 @@ fn read(forced: Option<IdKind>, input: &Input) -> Result<Loose<'_>, Refusal> {
     match (loose(other(kind), &input.bytes), forced) {
         (Ok(said), None) => Ok(said),
         (Ok(_), Some(kind)) => Err(wrong_kind(input, kind, &error)),
-        (Err(_), _) => Err(Refusal::of(input, "", &error)),
+        (Err(_), _) => Err(Refusal::of(kind, input, "", &error)),
     }
 }
 

@@ -76,9 +76,9 @@ impl Merge<'_> {
         let progress = Progress::new(format!("merging {}", self.table.name), None);
         let merged = merge(&self.table.bytes, &list.edits);
         drop(progress);
-        match merged.map_err(|error| self.refusal(&list, &error))? {
+        match merged.map_err(|error| self.refusal(kind, &list, &error))? {
             Merged::New(bytes) => {
-                let old = judged.check.map_err(|error| self.refusal(&list, &error))?;
+                let old = judged.check.map_err(|error| self.refusal(kind, &list, &error))?;
                 self.write(kind, &old, &bytes, lock, out)
             }
             Merged::NothingToDo => self.nothing_to_do(judged.check.map_or(0, |table| table.len()), out),
@@ -149,10 +149,10 @@ impl Merge<'_> {
         written.map_err(|error| Trouble::refused(format!("the merge is done, but standard output can't be written: {error}")))
     }
 
-    fn refusal(&self, list: &EditList, error: &Error) -> Refusal {
+    fn refusal(&self, kind: IdKind, list: &EditList, error: &Error) -> Refusal {
         match error.place_in_edits() {
             Some(place) => self.lines.refusal(list, place, error),
-            None => Refusal::of(self.table, "", error),
+            None => Refusal::of(kind, self.table, "", error),
         }
     }
 }

@@ -45,7 +45,7 @@ pub const COMMANDS: &[Command] = &[
     Command {
         name: "report",
         words: "FILE",
-        about: "every damaged line with its item number, place, bad part and text, what to do about it, then totals",
+        about: "every damaged line with its line number, place, bad part and text, what to do about it, then totals",
         run: report::run,
     },
     Command {

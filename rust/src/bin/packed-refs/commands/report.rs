@@ -2,16 +2,17 @@
 use super::Ended;
 use crate::args::Settings;
 use crate::beside;
-use crate::input::{line_feeds, Input};
-use crate::items::{all_items, bad_part, damaged_object, rest_of, start_of, text_of};
+use crate::input::Input;
+use crate::items::{all_items, damaged_object, put_bad_part, put_text, start_of};
 use crate::json::Object;
-use crate::kind::judge;
+use crate::kind::kind_of;
+use crate::line::Line;
 use crate::output::Out;
 use crate::progress::Progress;
 use crate::refusal::{Refusal, Trouble};
 use crate::words::count;
 use crate::Status;
-use packed_refs::{header, Damage, Error, Escaped, IdKind, Reason, Record};
+use packed_refs::{header, Damage, Error, IdKind, Reason, Record};
 use std::collections::BTreeMap;
 use std::ffi::OsString;
 use std::io;
@@ -20,7 +21,7 @@ use std::os::unix::ffi::OsStrExt;
 pub fn run(settings: &Settings, words: &[OsString], out: &mut Out) -> Ended {
     let [file] = words else { return Trouble::usage("report wants one FILE") };
     let input = Input::table(file, settings)?;
-    let kind = judge(settings.kind, &input)?.kind;
+    let kind = kind_of(settings.kind, &input)?;
     let mut report = Report::new(&input, out);
     report.all(kind)?;
     let status = report.end()?;
@@ -32,7 +33,6 @@ pub fn run(settings: &Settings, words: &[OsString], out: &mut Out) -> Ended {
 struct Report<'a, 'o> {
     input: &'a Input,
     out: &'o mut Out,
-    lines: Lines<'a>,
     records: usize,
     damaged: usize,
     unsorted: usize,
@@ -42,8 +42,7 @@ struct Report<'a, 'o> {
 
 impl<'a, 'o> Report<'a, 'o> {
     fn new(input: &'a Input, out: &'o mut Out) -> Report<'a, 'o> {
-        let lines = Lines { bytes: &input.bytes, place: 0, line: 1 };
-        Report { input, out, lines, records: 0, damaged: 0, unsorted: 0, met: BTreeMap::new() }
+        Report { input, out, records: 0, damaged: 0, unsorted: 0, met: BTreeMap::new() }
     }
 
     fn all(&mut self, kind: IdKind) -> Result<(), Trouble> {
@@ -51,16 +50,16 @@ impl<'a, 'o> Report<'a, 'o> {
             self.no_header(&error)?;
         }
         let progress = Progress::beside_output(format!("reporting on {}", self.input.name), self.input.bytes.len());
-        let mut items = all_items(kind, &self.input.bytes).map_err(|error| Refusal::of(self.input, "", &error))?;
+        let mut items = all_items(kind, &self.input.bytes).map_err(|error| Refusal::of(kind, self.input, "", &error))?;
         let mut last: &[u8] = b"";
         loop {
-            let number = items.item();
+            let line = items.line();
             match items.next() {
                 None => return Ok(()),
                 Some(Ok(record)) => {
                     self.records += 1;
                     if record.name <= last {
-                        self.out_of_order(number, &record)?;
+                        self.out_of_order(line, &record)?;
                     }
                     last = record.name;
                 }
@@ -74,29 +73,36 @@ impl<'a, 'o> Report<'a, 'o> {
         self.damaged += 1;
         let text = &self.input.bytes[..error.text_len()];
         let number = self.meet(error.reason());
-        let words = format_args!("{number} no header: item 1, byte 0, line 1: {}{}", Escaped(start_of(text)), rest_of(text));
-        self.out.answer(words, || {
-            let object = Object::new("no header").number("number", number).count("item", 1).count("line", 1).count("byte", 0);
+        let put = |line: &mut Line| put_text(line.number(number.into()).text(" no header: line 1, byte 0: "), text);
+        self.out.line(put, || {
+            let object = Object::new("no header").number("number", number).count("line", 1).count("byte", 0);
             object.bytes("text", start_of(text)).count("length", text.len())
         })
     }
 
-    fn out_of_order(&mut self, item: u64, record: &Record<'_>) -> io::Result<()> {
+    fn out_of_order(&mut self, line: Option<u64>, record: &Record<'_>) -> io::Result<()> {
         self.unsorted += 1;
-        let (number, place, line) = (self.meet(Reason::Unsorted), record.place, self.lines.of(record.place));
-        let words = format_args!("{number} out of order: item {item}, byte {place}, line {line}: {}", Escaped(record.name));
-        self.out.answer(words, || {
-            let object = Object::new("out of order").number("number", number).number("item", item).count("line", line);
-            object.count("byte", place).bytes("name", record.name)
+        let number = self.meet(Reason::Unsorted);
+        let put = |words: &mut Line| {
+            put_place(words.number(number.into()).text(" out of order: "), line, record.place);
+            words.text(": ").escaped(record.name);
+        };
+        self.out.line(put, || {
+            let object = Object::new("out of order").number("number", number);
+            let object = object.optional(line, |object, line| object.number("line", line));
+            object.count("byte", record.place).bytes("name", record.name)
         })
     }
 
     fn damage(&mut self, damage: &Damage<'_>) -> io::Result<()> {
         self.damaged += 1;
-        let (number, item, place, line) = (self.meet(damage.reason), damage.item, damage.place, self.lines.of(damage.place));
-        let (part, text) = (bad_part(damage), text_of(damage));
-        let words = format_args!("{number} damaged: item {item}, byte {place}, line {line}, {part}: {text}");
-        self.out.answer(words, || damaged_object(damage, Some(line)))
+        let number = self.meet(damage.reason);
+        let put = |words: &mut Line| {
+            put_place(words.number(number.into()).text(" damaged: "), damage.line, damage.place);
+            put_bad_part(words.text(", "), damage);
+            put_text(words.text(": "), damage.text);
+        };
+        self.out.line(put, || damaged_object(damage))
     }
 
     /// The number of a reason, which is remembered.
@@ -124,17 +130,10 @@ impl<'a, 'o> Report<'a, 'o> {
     }
 }
 
-/// Line numbers of rising places, each line feed counted once.
-struct Lines<'a> {
-    bytes: &'a [u8],
-    place: usize,
-    line: usize,
-}
-
-impl Lines<'_> {
-    fn of(&mut self, place: usize) -> usize {
-        self.line += line_feeds(&self.bytes[self.place..place]);
-        self.place = place;
-        self.line
+/// The line, which a walk over a file always knows, and the place.
+fn put_place(words: &mut Line, line: Option<u64>, place: usize) {
+    if let Some(line) = line {
+        words.text("line ").number(line).text(", ");
     }
+    words.text("byte ").number(place as u64);
 }

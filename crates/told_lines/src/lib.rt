@@ -1,0 +1,1 @@
+// What callers are told of lines: theorems about the replies, and no code. See specs/Told.antt.
