@@ -84,7 +84,7 @@ def machine():
 def main():
     results = {n: measure(n) for n in COUNTS}
     bad = hostile()
-    report_to_check, of_bad_lines = bad_lines.measure(ROUNDS)
+    report_to_check, bad_to_good, of_bad_lines = bad_lines.measure(ROUNDS)
     ours, gix = results[1000000][:2]
     lines = [
         "# Benchmarks", "",
@@ -92,21 +92,26 @@ def main():
         "Ours is `libhost.a` called from C (`benchmark/ours.c`); the Rust is gix-ref 0.67.1, release build (`benchmark/gix.rs` in the oracle). Both do the same work on the same bytes, files as the oracle's",
         f"`bench/gen.py` makes them (70 bytes a record, every tenth peeled); the two take turns for {ROUNDS} rounds, and a figure is the least of all runs in processor time. Both sides' new files",
         "are held to be the same bytes. A ratio is the Rust's time over ours, in brackets its least and greatest value in one round. The machine is shared: believe the ratios, not the times.",
-        "Each of our lookups, listings and steps is a call from C that makes the byte table anew; the Rust's are inlined. Our iteration walks: it hands the line number on.", "",
+        "Each of our lookups, listings and steps is a call from C; the Rust's are inlined. Our iteration walks: it hands the line number on.", "",
         "![Ratios at three sizes, and the time of hostile files against their size](benchmarks.svg)", "",
-        "## Goals, at 1,000,000 records", "", "| goal | measured | |", "|---|---|---|",
+        "## Goals, at 1,000,000 records", "", "| | goal | moonshot | measured | |", "|---|---|---|---|---|",
     ]
-    for what, want, got, at_least in [
-        ("check at least 3 times as fast as the Rust's iteration", 3, gix["iterate"] / ours["check"], True),
-        ("lookup, present, at least 1.5 times as fast", 1.5, gix["lookup-present"] / ours["lookup-present"], True),
-        ("lookup, absent, at least 1.5 times as fast", 1.5, gix["lookup-absent"] / ours["lookup-absent"], True),
-        ("merge of 4,000 edits at least 3 times as fast", 3, gix["merge-4000"] / ours["merge-4000"], True),
-        ("merge of 4,000 edits at most 1.5 times our check", 1.5, ours["merge-4000"] / ours["check"], False),
-        ("`report` of 1,000,000 bad lines at most 3 times `check` of as many good ones, as runs of the program", 3, report_to_check, False),
+    ratio = lambda key, of=None: gix[of or key] / ours[key]
+    for what, want, moonshot, got, at_least in [
+        ("check, times as fast as the Rust's iteration", 6, 9, ratio("check", "iterate"), True),
+        ("iteration by calls from C, times as fast", 4, 6, ratio("iterate"), True),
+        ("lookup, present, times as fast", 2, 3, ratio("lookup-present"), True),
+        ("lookup, absent, times as fast", 1.5, 3, ratio("lookup-absent"), True),
+        ("prefix listing of 110 records, times as fast", 2, 4, ratio("prefix"), True),
+        ("merge of 4,000 edits, times as fast", 5, 7, ratio("merge-4000"), True),
+        ("walk over 1,000,000 bad lines, times the walk over good ones", 1, None, bad_to_good, False),
+        ("`report` of 1,000,000 bad lines, times `check` of as many good ones, as runs of the program", 3, None, report_to_check, False),
     ]:
         met = got >= want if at_least else got <= want
         by = "met" if met else f"**missed by {abs(got / want - 1) * 100:.0f} %**"
-        lines.append(f"| {what} | {got:.2f} | {by} |")
+        if met and moonshot and got >= moonshot:
+            by = "met, and the moonshot"
+        lines.append(f"| {what} | at {'least' if at_least else 'most'} {want} | {moonshot or ''} | {got:.2f} | {by} |")
     for n in COUNTS:
         o, g, os_, gs = results[n]
         lines += ["", f"## {n:,} records", "", "| | ours | the Rust | ratio |", "|---|---|---|---|"]

@@ -1,6 +1,6 @@
 // The lookup that can be trusted on any bytes: absent is said only of a file that passes the check.
 ghost use mathlib.Core.Path.{_≡_};
-ghost use Rattle.class.specs.Class.{classesOf};
+ghost use Rattle.class.specs.Class.{paper};
 ghost use Rattle.ask.specs.Ask.{askOf, askAnswer, askBody, soughtFrom, toldOf};
 use checks::Refusal;
 use checks::Turn;
@@ -42,43 +42,40 @@ pub fn ask(kind: u32, file: &[u8], name: &[u8]) -> AskAnswer
     ensures { λ r. ⌜ r ≡ askAnswer kind (now (file .entry)) (now (name .entry)) ⌝ }
 {
     match parse::limit::admit(kind, file.len(), name.len()) {
-        Admission::Digits(n) => {
-            let t = class::table();
-            AskAnswer::Done(ask_using(&t, n, file, name))
-        }
+        Admission::Digits(n) => { AskAnswer::Done(ask_with_digits(n, file, name)) }
         Admission::UnknownKind => AskAnswer::UnknownKind,
         Admission::TooLarge => AskAnswer::TooLarge,
     }
 }
 
-// The same for ids of n digits, using a table of byte classes that the caller lends.
-pub fn ask_using(t: &[u8; 256], n: usize, file: &[u8], name: &[u8]) -> Told
-    ensures { λ r. ⌜ r ≡ askOf (classesOf (now (t .entry))) n (now (file .entry)) (now (name .entry)) ⌝ }
+// The same for ids of n digits.
+pub fn ask_with_digits(n: usize, file: &[u8], name: &[u8]) -> Told
+    ensures { λ r. ⌜ r ≡ askOf paper n (now (file .entry)) (now (name .entry)) ⌝ }
 {
-    if !name::is_valid_using(t, name) {
+    if !name::is_valid(name) {
         return Told::BadName;
     }
-    match header::open(t, file) {
+    match header::open(file) {
         Opened::Unreadable(text) => Told::Refused(Refusal::BadHeader(text)),
-        Opened::Header(h) => ask_body(t, n, file, h.body, name),
+        Opened::Header(h) => ask_body(n, file, h.body, name),
     }
 }
 
 // One pass from a place on that checks the records and looks for the name at once. From a record of the name on it checks alone, from the first fault
 // on it looks for the name alone; with both it ends.
-pub(crate) fn ask_body(t: &[u8; 256], n: usize, file: &[u8], body: usize, name: &[u8]) -> Told
-    ensures { λ r. ⌜ r ≡ askBody (classesOf (now (t .entry))) n (now (file .entry)) body (now (name .entry)) ⌝ }
+pub(crate) fn ask_body(n: usize, file: &[u8], body: usize, name: &[u8]) -> Told
+    ensures { λ r. ⌜ r ≡ askBody paper n (now (file .entry)) body (now (name .entry)) ⌝ }
 {
     let mut place = body;
     let mut count = 0;
     let mut last = &file[0..0];
     loop {
-        match checks::take_turn(t, n, file, place, last) {
+        match checks::take_turn(n, file, place, last) {
             Turn::End => {
                 return Told::Absent;
             }
             Turn::Refused(why) => {
-                let sought = first_named(t, n, file, place, name);
+                let sought = first_named(n, file, place, name);
                 return tell(sought, checks::refused(why));
             }
             Turn::On(found) => {
@@ -86,7 +83,7 @@ pub(crate) fn ask_body(t: &[u8; 256], n: usize, file: &[u8], body: usize, name: 
                 count += 1;
                 let next = place + found.size;
                 if compare::prefix::is_same(last, name) {
-                    let verdict = checks::check_from(t, n, file, next, count, last);
+                    let verdict = checks::check_from(n, file, next, count, last);
                     return Told::Charted {
                         place,
                         found,
@@ -100,13 +97,13 @@ pub(crate) fn ask_body(t: &[u8; 256], n: usize, file: &[u8], body: usize, name: 
 }
 
 // The first record of a name from a place on, whatever stands before it.
-pub(crate) fn first_named(t: &[u8; 256], n: usize, file: &[u8], from: usize, name: &[u8]) -> Sought
-    ensures { λ r. ⌜ r ≡ soughtFrom (classesOf (now (t .entry))) n (now (file .entry)) from (now (name .entry)) ⌝ }
+pub(crate) fn first_named(n: usize, file: &[u8], from: usize, name: &[u8]) -> Sought
+    ensures { λ r. ⌜ r ≡ soughtFrom paper n (now (file .entry)) from (now (name .entry)) ⌝ }
 {
     let mut place = from;
     while place < file.len() {
         let rest = &file[place..];
-        match decode::reference::reference(t, rest, n) {
+        match decode::reference::reference(rest, n) {
             Reading::Bad(_) => {
                 place = parse::line::line_end(file, place);
             }

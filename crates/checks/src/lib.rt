@@ -1,6 +1,6 @@
 // The check of a whole file: every item a record, every name greater than the one before.
 ghost use mathlib.Core.Path.{_≡_};
-ghost use Rattle.class.specs.Class.{classesOf};
+ghost use Rattle.class.specs.Class.{paper};
 ghost use Rattle.checks.specs.declared.Verdict.the-variants.{Refused};
 ghost use Rattle.checks.specs.Check.{checkOf, checkAnswer, judgeFrom, countBefore, turnOf};
 use decode::reference::Fault;
@@ -35,42 +35,38 @@ pub fn check(kind: u32, file: &[u8]) -> CheckAnswer
     ensures { λ r. ⌜ r ≡ checkAnswer kind (now (file .entry)) ⌝ }
 {
     match parse::limit::admit(kind, file.len(), 0) {
-        Admission::Digits(n) => {
-            let t = class::table();
-            CheckAnswer::Done(check_using(&t, n, file))
-        }
+        Admission::Digits(n) => { CheckAnswer::Done(check_with_digits(n, file)) }
         Admission::UnknownKind => CheckAnswer::UnknownKind,
         Admission::TooLarge => CheckAnswer::TooLarge,
     }
 }
 
-// The same for ids of n digits, using a table of byte classes that the caller lends.
-pub fn check_using(t: &[u8; 256], n: usize, file: &[u8]) -> Verdict
-    ensures { λ r. ⌜ r ≡ checkOf (classesOf (now (t .entry))) n (now (file .entry)) ⌝ }
+// The same for ids of n digits.
+pub fn check_with_digits(n: usize, file: &[u8]) -> Verdict
+    ensures { λ r. ⌜ r ≡ checkOf paper n (now (file .entry)) ⌝ }
 {
-    match header::open(t, file) {
+    match header::open(file) {
         Opened::Unreadable(text) => Verdict::Refused(Refusal::BadHeader(text)),
-        Opened::Header(h) => check_from(t, n, file, h.body, 0, &file[0..0]),
+        Opened::Header(h) => check_from(n, file, h.body, 0, &file[0..0]),
     }
 }
 
 // The check from a place on, in one pass: only the name before is looked at again. So many records have passed before the place, and the last of them has
 // that name, which is empty before the first.
-pub fn check_from<'t, 'a>(
-    t: &'t [u8; 256],
+pub fn check_from<'a>(
     n: usize,
     file: &'a [u8],
     from: usize,
     passed: usize,
     name: &'a [u8],
 ) -> Verdict
-    ensures { λ r. ⌜ r ≡ judgeFrom (classesOf (now (t .entry))) n (now (file .entry)) from (countBefore passed from) (now (name .entry)) ⌝ }
+    ensures { λ r. ⌜ r ≡ judgeFrom paper n (now (file .entry)) from (countBefore passed from) (now (name .entry)) ⌝ }
 {
     let mut place = from;
     let mut count = count_before(passed, from);
     let mut last = name;
     loop {
-        match take_turn(t, n, file, place, last) {
+        match take_turn(n, file, place, last) {
             Turn::End => {
                 return Verdict::Clean(count);
             }
@@ -121,14 +117,14 @@ pub enum Turn {
 }
 
 // One turn of every pass that checks: what stands at a place. `last` is the name of the record before it, and empty before the first.
-pub fn take_turn(t: &[u8; 256], n: usize, file: &[u8], place: usize, last: &[u8]) -> Turn
-    ensures { λ r. ⌜ r ≡ turnOf (classesOf (now (t .entry))) n (now (file .entry)) place (now (last .entry)) ⌝ }
+pub fn take_turn(n: usize, file: &[u8], place: usize, last: &[u8]) -> Turn
+    ensures { λ r. ⌜ r ≡ turnOf paper n (now (file .entry)) place (now (last .entry)) ⌝ }
 {
     if file.len() <= place {
         return Turn::End;
     }
     let rest = &file[place..];
-    match decode::reference::reference(t, rest, n) {
+    match decode::reference::reference(rest, n) {
         Reading::Bad(fault) => Turn::Refused(Refusal::BadRecord { place, fault }),
         Reading::Good(found) => {
             if !compare::order::is_less(last, decode::reference::name_of(rest, n, found)) {

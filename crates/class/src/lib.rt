@@ -1,6 +1,6 @@
 // The one table of byte classes: 1 for a hex digit, 2 for a byte forbidden in a name, 4 for CR and LF, added up.
 ghost use mathlib.Core.Path.{_≡_};
-ghost use Rattle.class.specs.Class.{classTable, classesOf};
+ghost use Rattle.class.specs.Class.{classTable, classesOf, isHex, isLineEnd};
 
 const CLASS: [u8; 256] = [
     2, // 0 NUL
@@ -284,4 +284,18 @@ pub fn is_line_end(t: &[u8; 256], b: u8) -> bool
     ensures { λ r. ⌜ r ≡ classesOf (now (t .entry)) .lineEnd b ⌝ }
 {
     t[b as usize] / 4 % 2 == 1
+}
+
+// Two of the classes by comparisons alone, with no table and no branch, so that a loop over a block of bytes compiles to vector code. They are the table's
+// (`table-classes`, proofs/Classes.antt).
+pub fn is_hex_digit(b: u8) -> bool
+    ensures { λ r. ⌜ r ≡ isHex b ⌝ }
+{
+    ((b'0' <= b) & (b <= b'9')) | (((b'a' <= b) & (b <= b'f')) | ((b'A' <= b) & (b <= b'F')))
+}
+
+pub fn is_cr_or_lf(b: u8) -> bool
+    ensures { λ r. ⌜ r ≡ isLineEnd b ⌝ }
+{
+    (b == b'\n') | (b == b'\r')
 }

@@ -1,6 +1,6 @@
 -- The order of two lists from a place on, by what stands there; and the laws of the order.
 use mathlib.Core.Path.{_≡_, refl, sym, ap, _∙_}
-use mathlib.Core.Bool.{Bool, true, false, _||_, not, true≢false}
+use mathlib.Core.Bool.{Bool, true, false, true≢false}
 use mathlib.Core.Logic.{_⊎_, inl, inr}
 use mathlib.Core.List.{List, [], _∷_}
 use Prim.Native.Nat.{ℕ, zero, suc, _+_, _≤_, _<_}
@@ -46,28 +46,18 @@ module _ (a b : List ℕ) where
       ∙ alike (i + n) (omega arith) (omega arith) (all n (omega arith))
       ∙ rw (add-suc i n, add-one (i + n))
 
--- of two tests joined, neither held
-pub first-false : (x y : Bool) → x || not y ≡ false → x ≡ false
-first-false true y e = e
-first-false false y e = refl
-
-pub second-true : (x y : Bool) → x || not y ≡ false → y ≡ true
-second-true true y e = cc
-second-true false true e = refl
-second-true false false e = cc
-
 -- ---- the order of two strings with a first byte
 
 module _ (x : ℕ) (a : List ℕ) (y : ℕ) (b : List ℕ) where
   pub same-first : x ≡ y → orderOf (x ∷ a) (y ∷ b) ≡ orderOf a b
   same-first e = rw (le-ltb x y (omega arith), le-ltb y x (omega arith))
 
-  data Firsts : Type 0 where
+  pub data Firsts : Type 0 where
     below : x < y → orderOf (x ∷ a) (y ∷ b) ≡ Less → Firsts
     above : y < x → orderOf (x ∷ a) (y ∷ b) ≡ Greater → Firsts
     level : x ≡ y → orderOf (x ∷ a) (y ∷ b) ≡ orderOf a b → Firsts
 
-  firsts : Firsts
+  pub firsts : Firsts
   firsts = go (ltb x y) (ltb y x) refl refl
     where
       go : (t v : Bool) → ltb x y ≡ t → ltb y x ≡ v → Firsts

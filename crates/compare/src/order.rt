@@ -1,8 +1,7 @@
-// The order of two byte strings, byte by byte, sixteen a step where they are alike.
+// The order of two byte strings: eight bytes a step, each eight read as one number; byte by byte where one of the strings has fewer.
 ghost use mathlib.Core.Path.{_≡_};
-ghost use mathlib.Core.Bool.{false};
-ghost use Prim.Native.Nat.{ℕ, _+_, _≤_, _<_};
-ghost use lib.ListN.{length, getD, drop};
+ghost use Prim.Native.Nat.{min};
+ghost use lib.ListN.{drop};
 ghost use Rattle.compare.specs.Order.{orderOf, smaller};
 
 pub enum Order {
@@ -16,23 +15,49 @@ pub fn compare(a: &[u8], b: &[u8]) -> Order
 {
     let m = a.len();
     let n = b.len();
-    let mut i = 0;
-    while i < m {
-        if m - i < 16 {
-            return by_one(a, b, i);
-        }
-        if n < 16 {
-            return by_one(a, b, i);
-        }
-        if n - 16 < i {
-            return by_one(a, b, i);
-        }
-        if differ16(a, b, i) {
-            return by_one(a, b, i);
-        }
-        i += 16;
+    let l = shorter(m, n);
+    if l < 8 {
+        return by_one(a, b, 0);
     }
-    by_one(a, b, i)
+    let mut i = 0;
+    while 8 <= l - i {
+        let u = word::number(a, i);
+        let v = word::number(b, i);
+        if u != v {
+            if u < v {
+                return Order::Less;
+            }
+            return Order::Greater;
+        }
+        i += 8;
+    }
+    // The last eight that both have: some of them were looked at, and are alike.
+    let p = word::number(a, l - 8);
+    let q = word::number(b, l - 8);
+    if p < q {
+        return Order::Less;
+    }
+    if q < p {
+        return Order::Greater;
+    }
+    // Alike as far as both go: the shorter one is the smaller.
+    if m < n {
+        return Order::Less;
+    }
+    if n < m {
+        return Order::Greater;
+    }
+    Order::Equal
+}
+
+// The smaller of two lengths.
+fn shorter(m: usize, n: usize) -> usize
+    ensures { λ r. ⌜ r ≡ min m n ⌝ }
+{
+    if n < m {
+        return n;
+    }
+    m
 }
 
 // Whether the first is the smaller one.
@@ -44,20 +69,6 @@ pub fn is_less(a: &[u8], b: &[u8]) -> bool
         Order::Equal => false,
         Order::Greater => false,
     }
-}
-
-// Whether two strings differ in the sixteen bytes from i on. With no early way out, so that it compiles to vector code.
-fn differ16(a: &[u8], b: &[u8], i: usize) -> bool
-    requires { ⌜ (i + 16 ≤ length (now a)) × (i + 16 ≤ length (now b)) ⌝ }
-    ensures { λ r. ⌜ (r ≡ false → (k : ℕ) → k < 16 → getD (now (a .entry)) (i + k) 0 ≡ getD (now (b .entry)) (i + k) 0) ⌝ }
-{
-    let mut any = false;
-    let mut k = 0;
-    while k < 16 {
-        any = any | (a[i + k] != b[i + k]);
-        k += 1;
-    }
-    any
 }
 
 // The order of what follows a place.

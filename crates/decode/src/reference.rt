@@ -2,7 +2,7 @@
 ghost use mathlib.Core.Path.{_≡_};
 ghost use Prim.Native.Nat.{_+_};
 ghost use lib.ListN.{take, drop};
-ghost use Rattle.class.specs.Class.{classesOf};
+ghost use Rattle.class.specs.Class.{paper};
 ghost use Rattle.decode.specs.Record.{recordOf};
 use parse::line::Text;
 use parse::part::Past;
@@ -32,19 +32,19 @@ pub enum Reading {
 }
 
 // The record at the front of the bytes, with ids of n digits.
-pub fn reference(t: &[u8; 256], s: &[u8], n: usize) -> Reading
-    ensures { λ r. ⌜ r ≡ recordOf (classesOf (now (t .entry))) n (now (s .entry)) ⌝ }
+pub fn reference(s: &[u8], n: usize) -> Reading
+    ensures { λ r. ⌜ r ≡ recordOf paper n (now (s .entry)) ⌝ }
 {
-    let Past::At(id_end) = id::hex_hash(t, s, 0, n) else {
+    let Past::At(id_end) = id::hex_hash(s, 0, n) else {
         return Reading::Bad(Fault::Id);
     };
     let Past::At(from) = parse::part::past_byte(s, id_end, b' ') else {
         return Reading::Bad(Fault::Space);
     };
-    let Text::Ended { end, next } = parse::line::until_line_end(t, s, from) else {
+    let Text::Ended { end, next } = parse::line::until_line_end(s, from) else {
         return Reading::Bad(Fault::LineEnd);
     };
-    if !name::is_valid_using(t, parse::part::between(s, from, end)) {
+    if !name::is_valid(parse::part::between(s, from, end)) {
         return Reading::Bad(Fault::Name);
     }
     let name_len = end - from;
@@ -55,7 +55,7 @@ pub fn reference(t: &[u8; 256], s: &[u8], n: usize) -> Reading
             size: next,
         });
     };
-    let Past::At(peeled_end) = id::hex_hash(t, s, peeled, n) else {
+    let Past::At(peeled_end) = id::hex_hash(s, peeled, n) else {
         return Reading::Bad(Fault::Peeled);
     };
     let Past::At(size) = parse::line::newline(s, peeled_end) else {

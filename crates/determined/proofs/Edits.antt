@@ -15,5 +15,5 @@ edits = record {
   sort-sort = λ m k o o′. clauses-1 (m .𝓤) (λ p q. same k o o′ refl (λ i. (one p q i, (tt, (tt, tt)))));
   sort-first-twin = λ m k o o′. by-answer k o o′ refl;
   edit-read = λ m k o o′. by-answer k o o′ refl;
-  edits-prepare = λ m k o o′. clauses-2 (m .𝓤) (λ p q. same k o o′ (one (p .0) (q .0)) (λ i. (tt, (tt, (tt, (one (p .1) (q .1) i, tt))))));
+  edits-prepare = λ m k o o′. clauses-2 (m .𝓤) (λ p q. same k o o′ (one (p .0) (q .0)) (λ i. (tt, (tt, (one (p .1) (q .1) i, tt)))));
 }

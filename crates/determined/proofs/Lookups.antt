@@ -9,9 +9,9 @@ lookups = record {
   probe-record-start = λ m k o o′. by-answer k o o′ refl;
   search-search = λ m k o o′. by-answer k o o′ refl;
   find-find = λ m k o o′. by-answer k o o′ refl;
-  find-find-using = λ m k o o′. by-answer k o o′ refl;
+  find-find-with-digits = λ m k o o′. by-answer k o o′ refl;
   find-begin = λ m k o o′. by-answer k o o′ refl;
-  find-begin-using = λ m k o o′. by-answer k o o′ refl;
+  find-begin-with-digits = λ m k o o′. by-answer k o o′ refl;
   ask-ask = λ m k o o′. by-answer k o o′ refl;
-  ask-ask-using = λ m k o o′. by-answer k o o′ refl;
+  ask-ask-with-digits = λ m k o o′. by-answer k o o′ refl;
 }

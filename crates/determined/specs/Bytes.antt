@@ -4,7 +4,12 @@ use Rattle.class.proofs.table
 use Rattle.class.proofs.is_hex
 use Rattle.class.proofs.is_forbidden
 use Rattle.class.proofs.is_line_end
+use Rattle.class.proofs.is_hex_digit
+use Rattle.class.proofs.is_cr_or_lf
 use Rattle.block.proofs.among16
+use Rattle.word.proofs.first_low
+use Rattle.word.proofs.last_low
+use Rattle.word.proofs.number
 use Rattle.parse.proofs.limit.digits
 use Rattle.parse.proofs.limit.over_limit
 use Rattle.parse.proofs.limit.admit
@@ -19,7 +24,6 @@ use Rattle.compare.proofs.order.is_less
 use Rattle.compare.proofs.prefix.begins_with
 use Rattle.compare.proofs.prefix.is_same
 use Rattle.name.proofs.is_valid
-use Rattle.name.proofs.is_valid_using
 use Rattle.determined.specs.Outcomes.{Determined, DeterminedAs}
 
 pub record Bytes : Type 2 where
@@ -27,7 +31,12 @@ pub record Bytes : Type 2 where
   pub class-is-hex : Determined is_hex.ended (λ M. is_hex.clauses)
   pub class-is-forbidden : Determined is_forbidden.ended (λ M. is_forbidden.clauses)
   pub class-is-line-end : Determined is_line_end.ended (λ M. is_line_end.clauses)
+  pub class-is-hex-digit : Determined is_hex_digit.ended (λ M. is_hex_digit.clauses)
+  pub class-is-cr-or-lf : Determined is_cr_or_lf.ended (λ M. is_cr_or_lf.clauses)
   pub block-among16 : Determined among16.ended (λ M. among16.clauses)
+  pub word-first-low : Determined first_low.ended (λ M. first_low.clauses)
+  pub word-last-low : Determined last_low.ended (λ M. last_low.clauses)
+  pub word-number : Determined number.ended (λ M. number.clauses)
   pub parse-digits : Determined digits.ended (λ M. digits.clauses)
   pub parse-over-limit : Determined over_limit.ended (λ M. over_limit.clauses)
   pub parse-admit : Determined admit.ended (λ M. admit.clauses)
@@ -42,4 +51,3 @@ pub record Bytes : Type 2 where
   pub compare-begins-with : Determined begins_with.ended (λ M. begins_with.clauses)
   pub compare-is-same : Determined is_same.ended (λ M. is_same.clauses)
   pub name-is-valid : Determined is_valid.ended (λ M. is_valid.clauses)
-  pub name-is-valid-using : Determined is_valid_using.ended (λ M. is_valid_using.clauses)

@@ -3,7 +3,7 @@ ghost use mathlib.Core.Path.{_≡_};
 ghost use Prim.Native.Nat.{_+_, _<_};
 ghost use lib.Dec.{leb};
 ghost use lib.ListN.{length};
-ghost use Rattle.class.specs.Class.{classesOf};
+ghost use Rattle.class.specs.Class.{paper};
 ghost use Rattle.edit.specs.Edit.{namedEdit, editOf};
 use length::Length;
 
@@ -22,8 +22,8 @@ pub enum EditReading {
 }
 
 // The edit at the front of the bytes, with ids of n digits.
-pub fn read(t: &[u8; 256], n: usize, s: &[u8]) -> EditReading
-    ensures { λ r. ⌜ r ≡ editOf (classesOf (now (t .entry))) n (now (s .entry)) ⌝ }
+pub fn read(n: usize, s: &[u8]) -> EditReading
+    ensures { λ r. ⌜ r ≡ editOf paper n (now (s .entry)) ⌝ }
 {
     if s.len() == 0 {
         return EditReading::Bad(EditFault::Malformed);
@@ -35,12 +35,12 @@ pub fn read(t: &[u8; 256], n: usize, s: &[u8]) -> EditReading
     let Length::Of { value, next } = length::length_at(s, 1) else {
         return EditReading::Bad(EditFault::Malformed);
     };
-    behind_length(t, s, next, value, wide(kind) * (n / 2))
+    behind_length(s, next, value, wide(kind) * (n / 2))
 }
 
 // The edit whose name has this length and stands at this place, with ids of so many bytes behind it.
-fn behind_length(t: &[u8; 256], s: &[u8], from: usize, len: usize, ids: usize) -> EditReading
-    ensures { λ r. ⌜ r ≡ namedEdit (classesOf (now (t .entry))) (now (s .entry)) from len ids ⌝ }
+fn behind_length(s: &[u8], from: usize, len: usize, ids: usize) -> EditReading
+    ensures { λ r. ⌜ r ≡ namedEdit paper (now (s .entry)) from len ids ⌝ }
 {
     if len == 0 {
         return EditReading::Bad(EditFault::BadName);
@@ -51,7 +51,7 @@ fn behind_length(t: &[u8; 256], s: &[u8], from: usize, len: usize, ids: usize) -
     if !stands(s, from, len, ids) {
         return EditReading::Bad(EditFault::Malformed);
     }
-    if !name::is_valid_using(t, parts::edit_name(s, 0)) {
+    if !name::is_valid(parts::edit_name(s, 0)) {
         return EditReading::Bad(EditFault::BadName);
     }
     let size = from + len + ids;

@@ -4,7 +4,7 @@ ghost use mathlib.Core.Bool.{true};
 ghost use mathlib.Core.List.{_++_};
 ghost use Prim.Native.Nat.{_≤_, _<_};
 ghost use lib.ListN.{length, take, drop};
-ghost use Rattle.class.specs.Class.{classesOf};
+ghost use Rattle.class.specs.Class.{paper};
 ghost use Rattle.edits.specs.List.{editsOf, counted, isWhole, placesOf, inOrder, preparedOf, twinsOf, indexAfter};
 use edit::EditFault;
 use edit::EditReading;
@@ -37,8 +37,8 @@ pub enum Prepared {
 }
 
 // The number of edits, or the first fault.
-pub(crate) fn count(t: &[u8; 256], n: usize, list: &[u8]) -> Edits
-    ensures { λ r. ⌜ r ≡ counted 0 (editsOf (classesOf (now (t .entry))) n (now (list .entry))) ⌝ }
+pub(crate) fn count(n: usize, list: &[u8]) -> Edits
+    ensures { λ r. ⌜ r ≡ counted 0 (editsOf paper n (now (list .entry))) ⌝ }
 {
     let mut place = 0;
     let mut count = 0;
@@ -47,7 +47,7 @@ pub(crate) fn count(t: &[u8; 256], n: usize, list: &[u8]) -> Edits
             return Edits::Bad(ListFault::TooMany(place));
         }
         let rest = &list[place..];
-        match edit::read(t, n, rest) {
+        match edit::read(n, rest) {
             EditReading::Good(size) => {
                 place += size;
                 count += 1;
@@ -62,20 +62,20 @@ pub(crate) fn count(t: &[u8; 256], n: usize, list: &[u8]) -> Edits
 
 // The edits' places go to the front of the index and are put in name order there; entries behind them stay. Before it is known that
 // the list is whole and the index long enough, nothing is written.
-pub fn prepare(t: &[u8; 256], n: usize, list: &[u8], index: &mut [u32]) -> Prepared
-    ensures { λ r. ⌜ r ≡ preparedOf (classesOf (now (t .entry))) n (now (list .entry)) (length (now (index .entry))) ⌝ }
-    ensures { λ _. ⌜ now (index .exit) ≡ indexAfter (classesOf (now (t .entry))) n (now (list .entry)) (now (index .entry)) ⌝ }
+pub fn prepare(n: usize, list: &[u8], index: &mut [u32]) -> Prepared
+    ensures { λ r. ⌜ r ≡ preparedOf paper n (now (list .entry)) (length (now (index .entry))) ⌝ }
+    ensures { λ _. ⌜ now (index .exit) ≡ indexAfter paper n (now (list .entry)) (now (index .entry)) ⌝ }
 {
     if parse::limit::over_limit(list.len()) {
         return Prepared::TooLarge;
     }
-    match count(t, n, list) {
+    match count(n, list) {
         Edits::Bad(why) => Prepared::BadList(why),
         Edits::Count(k) => {
             if index.len() < k {
                 return Prepared::ShortIndex;
             }
-            fill(t, n, list, index);
+            fill(n, list, index);
             put_in_order(index, list, k)
         }
     }
@@ -102,17 +102,17 @@ fn twins(index: &[u32], list: &[u8], k: usize) -> Prepared
 }
 
 // The edits' places, in list order.
-fn fill(t: &[u8; 256], n: usize, list: &[u8], index: &mut [u32])
-    requires { ⌜ (length (now list) < 4294967296) × (isWhole (editsOf (classesOf (now t)) n (now list)) ≡ true)
-        × (length (placesOf (editsOf (classesOf (now t)) n (now list))) ≤ length (now index)) ⌝ }
-    ensures { λ _. ⌜ now (index .exit) ≡ placesOf (editsOf (classesOf (now (t .entry))) n (now (list .entry)))
-        ++ drop (length (placesOf (editsOf (classesOf (now (t .entry))) n (now (list .entry))))) (now (index .entry)) ⌝ }
+fn fill(n: usize, list: &[u8], index: &mut [u32])
+    requires { ⌜ (length (now list) < 4294967296) × (isWhole (editsOf paper n (now list)) ≡ true)
+        × (length (placesOf (editsOf paper n (now list))) ≤ length (now index)) ⌝ }
+    ensures { λ _. ⌜ now (index .exit) ≡ placesOf (editsOf paper n (now (list .entry)))
+        ++ drop (length (placesOf (editsOf paper n (now (list .entry))))) (now (index .entry)) ⌝ }
 {
     let mut place = 0;
     let mut i = 0;
     while place < list.len() {
         let rest = &list[place..];
-        match edit::read(t, n, rest) {
+        match edit::read(n, rest) {
             EditReading::Good(size) => {
                 index[i] = place as u32;
                 place += size;

@@ -1,6 +1,6 @@
 // Lookup of one full name in the bytes behind a header.
 ghost use mathlib.Core.Path.{_≡_};
-ghost use Rattle.class.specs.Class.{classesOf};
+ghost use Rattle.class.specs.Class.{paper};
 ghost use Rattle.find.specs.Lookup.{lookupOf, lookupAnswer};
 use decode::reference::Fault;
 use decode::reference::Reading;
@@ -31,29 +31,22 @@ pub fn find(kind: u32, body: &[u8], name: &[u8]) -> LookupAnswer
     ensures { λ r. ⌜ r ≡ lookupAnswer kind (now (body .entry)) (now (name .entry)) ⌝ }
 {
     match parse::limit::admit(kind, body.len(), name.len()) {
-        Admission::Digits(n) => {
-            let t = class::table();
-            LookupAnswer::Done(find_using(&t, n, body, name))
-        }
+        Admission::Digits(n) => { LookupAnswer::Done(find_with_digits(n, body, name)) }
         Admission::UnknownKind => LookupAnswer::UnknownKind,
         Admission::TooLarge => LookupAnswer::TooLarge,
     }
 }
 
-// The same for ids of n digits, using a table of byte classes that the caller lends.
-pub fn find_using(t: &[u8; 256], n: usize, body: &[u8], name: &[u8]) -> Lookup
-    ensures { λ r. ⌜ r ≡ lookupOf (classesOf (now (t .entry))) n (now (body .entry)) (now (name .entry)) ⌝ }
+// The same for ids of n digits.
+pub fn find_with_digits(n: usize, body: &[u8], name: &[u8]) -> Lookup
+    ensures { λ r. ⌜ r ≡ lookupOf paper n (now (body .entry)) (now (name .entry)) ⌝ }
 {
-    if !name::is_valid_using(t, name) {
+    if !name::is_valid(name) {
         return Lookup::BadName;
     }
-    match search::search(t, n, body, name) {
+    match search::search(n, body, name) {
         Halved::Hit(place) => {
-            match decode::reference::reference(
-                t,
-                parse::part::between(body, place, body.len()),
-                n,
-            ) {
+            match decode::reference::reference(parse::part::between(body, place, body.len()), n) {
                 Reading::Good(found) => Lookup::Charted { place, found },
                 Reading::Bad(fault) => Lookup::BadRecord { place, fault },
             }

@@ -2,7 +2,7 @@
 ghost use mathlib.Core.Path.{_≡_};
 ghost use Prim.Native.Nat.{_≤_};
 ghost use lib.ListN.{length};
-ghost use Rattle.class.specs.Class.{classesOf};
+ghost use Rattle.class.specs.Class.{paper};
 ghost use Rattle.find.specs.PrefixStart.{prefixStartOf, prefixStartFrom, prefixStartAnswer};
 use parse::limit::Admission;
 use search::Halved;
@@ -25,31 +25,28 @@ pub fn begin(kind: u32, body: &[u8], prefix: &[u8]) -> PrefixStartAnswer
     ensures { λ r. ⌜ r ≡ prefixStartAnswer kind (now (body .entry)) (now (prefix .entry)) ⌝ }
 {
     match parse::limit::admit(kind, body.len(), prefix.len()) {
-        Admission::Digits(n) => {
-            let t = class::table();
-            PrefixStartAnswer::Done(begin_using(&t, n, body, prefix))
-        }
+        Admission::Digits(n) => { PrefixStartAnswer::Done(begin_with_digits(n, body, prefix)) }
         Admission::UnknownKind => PrefixStartAnswer::UnknownKind,
         Admission::TooLarge => PrefixStartAnswer::TooLarge,
     }
 }
 
-// The same for ids of n digits, using a table of byte classes that the caller lends. Whether a probe failed is not asked.
-pub fn begin_using(t: &[u8; 256], n: usize, body: &[u8], prefix: &[u8]) -> PrefixStart
-    ensures { λ r. ⌜ r ≡ prefixStartOf (classesOf (now (t .entry))) n (now (body .entry)) (now (prefix .entry)) ⌝ }
+// The same for ids of n digits. Whether a probe failed is not asked.
+pub fn begin_with_digits(n: usize, body: &[u8], prefix: &[u8]) -> PrefixStart
+    ensures { λ r. ⌜ r ≡ prefixStartOf paper n (now (body .entry)) (now (prefix .entry)) ⌝ }
 {
-    match search::search(t, n, body, prefix) {
-        Halved::Hit(place) => begin_from(t, body, place),
-        Halved::Miss { place, failed: _ } => begin_from(t, body, place),
+    match search::search(n, body, prefix) {
+        Halved::Hit(place) => begin_from(body, place),
+        Halved::Miss { place, failed: _ } => begin_from(body, place),
     }
 }
 
 // The start, where the search came to a place: the bytes from there on are looked at for a header.
-fn begin_from(t: &[u8; 256], body: &[u8], place: usize) -> PrefixStart
+fn begin_from(body: &[u8], place: usize) -> PrefixStart
     requires { ⌜ place ≤ length (now body) ⌝ }
-    ensures { λ r. ⌜ r ≡ prefixStartFrom (classesOf (now (t .entry))) (now (body .entry)) place ⌝ }
+    ensures { λ r. ⌜ r ≡ prefixStartFrom paper (now (body .entry)) place ⌝ }
 {
-    match start::begin_using(t, parse::part::between(body, place, body.len())) {
+    match start::begin_without_kind(parse::part::between(body, place, body.len())) {
         Start::At {
             place: behind,
             line: _,

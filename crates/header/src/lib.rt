@@ -5,7 +5,7 @@ ghost use Prim.Native.Nat.{_+_};
 ghost use lib.Dec.{eqb};
 ghost use lib.ListN.{drop};
 ghost use Rattle.parse.specs.Run.{span};
-ghost use Rattle.class.specs.Class.{classesOf};
+ghost use Rattle.class.specs.Class.{paper};
 ghost use Rattle.header.specs.Header.{headerOf, allNoted, tokens, noted, firstLine, headerAnswer, plainHeader};
 use parse::line::Text;
 
@@ -42,12 +42,11 @@ pub fn read_header(file: &[u8]) -> HeaderAnswer
     if parse::limit::over_limit(file.len()) {
         return HeaderAnswer::TooLarge;
     }
-    let t = class::table();
-    HeaderAnswer::Done(open(&t, file))
+    HeaderAnswer::Done(open(file))
 }
 
-pub fn open(t: &[u8; 256], file: &[u8]) -> Opened
-    ensures { λ r. ⌜ r ≡ headerOf (classesOf (now (t .entry))) (now (file .entry)) ⌝ }
+pub fn open(file: &[u8]) -> Opened
+    ensures { λ r. ⌜ r ≡ headerOf paper (now (file .entry)) ⌝ }
 {
     if file.len() == 0 {
         return Opened::Header(plain(0));
@@ -58,7 +57,7 @@ pub fn open(t: &[u8; 256], file: &[u8]) -> Opened
     if !compare::prefix::begins_with(file, b"# pack-refs with: ") {
         return Opened::Unreadable(first_line(file));
     }
-    let Text::Ended { end, next } = parse::line::until_line_end(t, file, 18) else {
+    let Text::Ended { end, next } = parse::line::until_line_end(file, 18) else {
         return Opened::Unreadable(first_line(file));
     };
     Opened::Header(note_tokens(parse::part::between(file, 18, end), plain(next)))

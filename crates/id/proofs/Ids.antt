@@ -1,17 +1,15 @@
 -- When n hex digits stand at a place, and when not. For any n.
-use mathlib.Core.Path.{_≡_, refl, sym, ap, _∙_}
+use mathlib.Core.Path.{_≡_, refl}
 use mathlib.Core.Bool.{Bool, true, false}
 use mathlib.Core.List.{List}
-use Prim.Native.Nat.{ℕ, _+_, _-_, _≤_, _<_}
-use native.Mathlib.Omega.{arith}
+use Prim.Native.Nat.{ℕ, _+_, _≤_, _<_}
 use lib.Dec.{leb}
-use lib.ListN.{length, getD, drop}
+use lib.ListN.{drop}
 use borrow.Author.Tests.{le-leb, lt-leb, leb-true, leb-false}
 use Rattle.parse.specs.declared.part.Past.the-variants.{At, Unread}
 use Rattle.class.specs.Class.{Classes}
 use Rattle.parse.specs.Run.{span}
 use Rattle.id.specs.Id.{idAt}
-use Rattle.parse.proofs.Runs.{skip}
 
 module _ (byte : Classes) (n : ℕ) (s : List ℕ) (at : ℕ) where
   pub id-read : n ≤ span (byte .hex) (drop at s) → idAt byte n s at ≡ At (at + n)
@@ -34,19 +32,3 @@ id-view byte n s at = go (leb n (span (byte .hex) (drop at s))) refl
     go : (t : Bool) → leb n (span (byte .hex) (drop at s)) ≡ t → IdView byte n s at
     go true e = id (leb-true _ _ e) (rw e)
     go false e = no-id (leb-false _ _ e) (rw e)
-
--- digits that are there are passed over
-pub id-skip : (byte : Classes) (n : ℕ) (s : List ℕ) (at k : ℕ) → k ≤ n → at + k ≤ length s → ((j : ℕ) → j < k → (byte .hex) (getD s (at + j) 0) ≡ true)
-    → idAt byte n s at ≡ idAt byte (n - k) s (at + k)
-id-skip byte n s at k h inside all = go (leb n (span (byte .hex) (drop at s))) refl
-  where
-    on : at + span (byte .hex) (drop at s) ≡ (at + k) + span (byte .hex) (drop (at + k) s)
-    on = skip (byte .hex) s at k inside all
-
-    go : (t : Bool) → leb n (span (byte .hex) (drop at s)) ≡ t → idAt byte n s at ≡ idAt byte (n - k) s (at + k)
-    go true e =
-        let r = leb-true n (span (byte .hex) (drop at s)) e in
-        id-read byte n s at r ∙ ap At (omega arith) ∙ sym (id-read byte (n - k) s (at + k) (omega (arith, on, r)))
-    go false e =
-        let r = leb-false n (span (byte .hex) (drop at s)) e in
-        id-unread byte n s at r ∙ sym (id-unread byte (n - k) s (at + k) (omega (arith, on, r)))

@@ -2,7 +2,7 @@
 // step counts it; with a prefix there is none, and 0 is told. The walk (crate `walker`) is given it.
 ghost use mathlib.Core.Path.{_≡_};
 ghost use mathlib.Core.List.{[]};
-ghost use Rattle.class.specs.Class.{classesOf};
+ghost use Rattle.class.specs.Class.{paper};
 ghost use Rattle.iter.specs.Step.{stepOf, stepAnswer, plainAnswer, prefixAnswer};
 use decode::reference::Fault;
 use decode::reference::Reading;
@@ -72,24 +72,21 @@ pub fn next_on_line(kind: u32, s: &[u8], prefix: &[u8], place: usize, line: u64)
     ensures { λ r. ⌜ r ≡ stepAnswer kind (now (prefix .entry)) (now (s .entry)) place line ⌝ }
 {
     match parse::limit::admit(kind, s.len(), prefix.len()) {
-        Admission::Digits(n) => {
-            let t = class::table();
-            StepAnswer::Done(next_using(&t, n, prefix, s, place, line))
-        }
+        Admission::Digits(n) => { StepAnswer::Done(next_with_digits(n, prefix, s, place, line)) }
         Admission::UnknownKind => StepAnswer::UnknownKind,
         Admission::TooLarge => StepAnswer::TooLarge,
     }
 }
 
-// The same for ids of n digits, using a table of byte classes that the caller lends.
-pub fn next_using(t: &[u8; 256], n: usize, prefix: &[u8], s: &[u8], place: usize, line: u64) -> Step
-    ensures { λ r. ⌜ r ≡ stepOf (classesOf (now (t .entry))) n (now (prefix .entry)) (now (s .entry)) place line ⌝ }
+// The same for ids of n digits.
+pub fn next_with_digits(n: usize, prefix: &[u8], s: &[u8], place: usize, line: u64) -> Step
+    ensures { λ r. ⌜ r ≡ stepOf paper n (now (prefix .entry)) (now (s .entry)) place line ⌝ }
 {
     if s.len() <= place {
         return Step::End { next: s.len() };
     }
     let rest = &s[place..];
-    match decode::reference::reference(t, rest, n) {
+    match decode::reference::reference(rest, n) {
         Reading::Good(found) => {
             let name = decode::reference::name_of(rest, n, found);
             if !compare::prefix::begins_with(name, prefix) {

@@ -8,7 +8,7 @@ use native.Mathlib.Omega.{arith}
 use lib.Dec.{ltb, eqb}
 use lib.ListN.{getD, length, take, drop, length-drop, drop-of-length-le}
 use lib.Seq.{drop-cons, getD-drop, take-add}
-use borrow.Author.Tests.{eq-eqb, lt-ltb, ltb-true, ltb-false}
+use borrow.Author.Tests.{eq-eqb, ne-eqb, lt-ltb, ltb-true, ltb-false}
 use Rattle.parse.specs.Choice.{if}
 use Rattle.parse.specs.Line.{eol, lineLen}
 use Rattle.parse.proofs.Fronts.{Eol, none, lf, crlf, eol-view}
@@ -16,6 +16,13 @@ use Rattle.parse.proofs.Runs.{span-le}
 use Rattle.line_number.specs.LineNumber.{lineFeeds, lineNumber, atMost, lineTold, untilFeed}
 
 -- ---- one byte at a time, from a place on
+
+-- any byte but a line feed, as those from 14 on are
+abbrev pub other : ℕ → Bool
+other b = not (eqb b 10)
+
+pub high-other : (b : ℕ) → 14 ≤ b → other b ≡ true
+high-other b h = rw (ne-eqb b 10 (λ e. omega arith))
 
 module _ (s : List ℕ) (i : ℕ) where
   pub feeds-end : length s ≤ i → lineFeeds (drop i s) ≡ 0
@@ -100,7 +107,7 @@ one-feed (b ∷ s) = go (eqb b 10) refl (one-feed s)
     go false e h = rw e h
 
 pub until-le : (s : List ℕ) → untilFeed s ≤ length s
-until-le s = span-le (λ b. not (eqb b 10)) s
+until-le s = span-le other s
 
 -- its text ends no later than a line feed stands
 pub until-at : (s : List ℕ) (i : ℕ) → getD s i 0 ≡ 10 → untilFeed s ≤ i

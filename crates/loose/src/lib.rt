@@ -8,7 +8,7 @@
 ghost use mathlib.Core.Path.{_≡_};
 ghost use Prim.Native.Nat.{_+_};
 ghost use lib.ListN.{take, drop};
-ghost use Rattle.class.specs.Class.{classesOf};
+ghost use Rattle.class.specs.Class.{paper, classesOf, classTable};
 ghost use Rattle.parse.specs.Run.{span};
 ghost use Rattle.loose.specs.Loose.{isSpace, endsPath, pathLen, fullId, looseOf, looseAnswer};
 use parse::limit::Admission;
@@ -37,29 +37,27 @@ pub fn read(kind: u32, content: &[u8]) -> LooseAnswer
     ensures { λ r. ⌜ r ≡ looseAnswer kind (now (content .entry)) ⌝ }
 {
     match parse::limit::admit(kind, content.len(), 0) {
-        Admission::Digits(n) => {
-            let t = class::table();
-            LooseAnswer::Done(read_using(&t, n, content))
-        }
+        Admission::Digits(n) => LooseAnswer::Done(read_with_digits(n, content)),
         Admission::UnknownKind => LooseAnswer::UnknownKind,
         Admission::TooLarge => LooseAnswer::TooLarge,
     }
 }
 
-// The same for ids of n digits, using a table of byte classes that the caller lends.
-pub fn read_using(t: &[u8; 256], n: usize, content: &[u8]) -> Loose
-    ensures { λ r. ⌜ r ≡ looseOf (classesOf (now (t .entry))) n (now (content .entry)) ⌝ }
+// The same for ids of n digits.
+pub fn read_with_digits(n: usize, content: &[u8]) -> Loose
+    ensures { λ r. ⌜ r ≡ looseOf paper n (now (content .entry)) ⌝ }
 {
+    let t = class::table();
     if compare::prefix::begins_with(content, b"ref: ") {
         let from = past_spaces(content, 5);
-        let end = path_end(t, content, from);
-        if !name::is_valid_using(t, parse::part::between(content, from, end)) {
+        let end = path_end(&t, content, from);
+        if !name::is_valid(parse::part::between(content, from, end)) {
             return Loose::BadTarget;
         }
         let len = end - from;
         return Loose::Symbolic { from, len };
     }
-    if full_id(t, n, content) {
+    if full_id(&t, n, content) {
         return Loose::Id(n);
     }
     Loose::Unreadable
@@ -111,9 +109,10 @@ fn ends_path(t: &[u8; 256], b: u8) -> bool
 
 // Whether an id of n digits stands at the front, with no further digit behind it.
 fn full_id(t: &[u8; 256], n: usize, s: &[u8]) -> bool
-    ensures { λ r. ⌜ r ≡ fullId (classesOf (now (t .entry))) n (now (s .entry)) ⌝ }
+    requires { ⌜ now t ≡ classTable ⌝ }
+    ensures { λ r. ⌜ r ≡ fullId paper n (now (s .entry)) ⌝ }
 {
-    let Past::At(end) = id::hex_hash(t, s, 0, n) else {
+    let Past::At(end) = id::hex_hash(s, 0, n) else {
         return false;
     };
     if s.len() <= end {

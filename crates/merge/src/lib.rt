@@ -6,7 +6,7 @@
 ghost use mathlib.Core.Path.{_≡_};
 ghost use Prim.Native.Nat.{_≤_};
 ghost use lib.ListN.{length, drop};
-ghost use Rattle.class.specs.Class.{paper, classTable};
+ghost use Rattle.class.specs.Class.{paper};
 ghost use Rattle.iter.specs.Entries.{entriesOf};
 ghost use Rattle.checks.specs.Check.{judgeBody};
 ghost use Rattle.iter.specs.Items.{items};
@@ -69,9 +69,8 @@ pub fn merge_with_digits(
     ensures { λ _. ⌜ now (index .exit) ≡ indexAfter paper n (now (list .entry)) (now (index .entry)) ⌝ }
     ensures { λ _. ⌜ now (out .exit) ≡ outputOf paper n (now (old .entry)) (now (list .entry)) (length (now (index .entry))) (now (out .entry)) ⌝ }
 {
-    let t = class::table();
-    match edits::list::prepare(&t, n, list, index) {
-        Prepared::Ready(k) => with_edits(&t, n, old, list, &index[0..k], out),
+    match edits::list::prepare(n, list, index) {
+        Prepared::Ready(k) => with_edits(n, old, list, &index[0..k], out),
         Prepared::BadList(why) => Merged::BadList(why),
         Prepared::ShortIndex => Merged::ShortIndex,
         Prepared::Twins(place) => Merged::Twins(place),
@@ -80,27 +79,19 @@ pub fn merge_with_digits(
 }
 
 // The merge once the index is ready: it holds the places of all edits in name order, and no two edits have one name.
-fn with_edits(
-    t: &[u8; 256],
-    n: usize,
-    old: &[u8],
-    list: &[u8],
-    index: &[u32],
-    out: &mut [u8],
-) -> Merged
-    requires { ⌜ (now t ≡ classTable) × (length (now index) ≤ 4096) × Rising (now list) (now index) ⌝ }
+fn with_edits(n: usize, old: &[u8], list: &[u8], index: &[u32], out: &mut [u8]) -> Merged
+    requires { ⌜ (length (now index) ≤ 4096) × Rising (now list) (now index) ⌝ }
     ensures { λ r. ⌜ r ≡ judged paper n (now (old .entry)) (editsAt n (now (list .entry)) (now (index .entry))) (length (now (out .entry))) ⌝ }
     ensures { λ r. ⌜ now (out .exit) ≡ outputBy (newFile (oldEntries paper n (now (old .entry))) (editsAt n (now (list .entry)) (now (index .entry)))) (now (out .entry)) r ⌝ }
 {
-    match header::open(t, old) {
+    match header::open(old) {
         Opened::Unreadable(text) => Merged::Refused(Refusal::BadHeader(text)),
-        Opened::Header(h) => behind_header(t, n, old, h.body, list, index, out),
+        Opened::Header(h) => behind_header(n, old, h.body, list, index, out),
     }
 }
 
 // The merge once the header was read: the old records begin at the place `body`.
 fn behind_header(
-    t: &[u8; 256],
     n: usize,
     old: &[u8],
     body: usize,
@@ -108,12 +99,12 @@ fn behind_header(
     index: &[u32],
     out: &mut [u8],
 ) -> Merged
-    requires { ⌜ (now t ≡ classTable) × (length (now index) ≤ 4096) × Rising (now list) (now index) ⌝ }
+    requires { ⌜ (length (now index) ≤ 4096) × Rising (now list) (now index) ⌝ }
     ensures { λ r. ⌜ r ≡ judgedBy (entriesOf n (items paper n (drop body (now (old .entry))))) (editsAt n (now (list .entry)) (now (index .entry))) (length (now (out .entry))) (judgeBody paper n (now (old .entry)) body) ⌝ }
     ensures { λ r. ⌜ now (out .exit) ≡ outputBy (newFile (entriesOf n (items paper n (drop body (now (old .entry))))) (editsAt n (now (list .entry)) (now (index .entry)))) (now (out .entry)) r ⌝ }
 {
     let mut marks = no_marks();
-    match runs::survey(t, n, old, body, list, index, &mut marks) {
+    match runs::survey(n, old, body, list, index, &mut marks) {
         Verdict::Clean(_) => finish(n, old, body, list, index, &marks, out),
         Verdict::Refused(why) => Merged::Refused(why),
     }

@@ -8,6 +8,10 @@ and-left a b h = and-eq-true-iff a b .0 h .0
 pub and-right : (a b : Bool) → a && b ≡ true → b ≡ true
 and-right a b h = and-eq-true-iff a b .0 h .1
 
+pub neither : (a b : Bool) → a || b ≡ false → (a ≡ false) × (b ≡ false)
+neither false b h = (refl, h)
+neither true b h = (h, cc)
+
 pub and-left-comm : (a b c : Bool) → (a && (b && c)) ≡ (b && (a && c))
 and-left-comm true b c = refl
 and-left-comm false true c = refl

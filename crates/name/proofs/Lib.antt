@@ -5,3 +5,5 @@ mod Components
 mod Ends
 pub mod Laws
 mod OnePass
+mod PlainNames
+mod Slashes

@@ -2,7 +2,7 @@
 ghost use mathlib.Core.Path.{_≡_};
 ghost use Prim.Native.Nat.{_+_};
 ghost use lib.ListN.{drop};
-ghost use Rattle.class.specs.Class.{classesOf};
+ghost use Rattle.class.specs.Class.{paper};
 ghost use Rattle.parse.specs.Line.{newlineAt, textLen, textAt, lineLen};
 use crate::part::Past;
 
@@ -34,13 +34,34 @@ pub fn newline(s: &[u8], at: usize) -> Past
     Past::At(at + 2)
 }
 
-// The place of the first CR or LF from a place on, or the end; the place itself where that is beyond the end.
-pub(crate) fn text_end(t: &[u8; 256], s: &[u8], at: usize) -> usize
-    ensures { λ r. ⌜ r ≡ at + textLen (classesOf (now (t .entry))) (drop at (now (s .entry))) ⌝ }
+// The place of the first CR or LF from a place on, or the end; the place itself where that is beyond the end. Eight bytes a step while none of them is low.
+pub(crate) fn text_end(s: &[u8], at: usize) -> usize
+    ensures { λ r. ⌜ r ≡ at + textLen paper (drop at (now (s .entry))) ⌝ }
+{
+    let mut i = at;
+    loop {
+        let n = word::first_low(s, i);
+        if n < 8 {
+            if class::is_cr_or_lf(s[i + n]) {
+                return i + n;
+            }
+            break;
+        }
+        if 8 < n {
+            break;
+        }
+        i += 8;
+    }
+    by_one(s, i)
+}
+
+// The same byte by byte.
+fn by_one(s: &[u8], at: usize) -> usize
+    ensures { λ r. ⌜ r ≡ at + textLen paper (drop at (now (s .entry))) ⌝ }
 {
     let mut i = at;
     while i < s.len() {
-        if class::is_line_end(t, s[i]) {
+        if class::is_cr_or_lf(s[i]) {
             return i;
         }
         i += 1;
@@ -49,18 +70,35 @@ pub(crate) fn text_end(t: &[u8; 256], s: &[u8], at: usize) -> usize
 }
 
 // The text that stands at a place, with its line end.
-pub fn until_line_end(t: &[u8; 256], s: &[u8], at: usize) -> Text
-    ensures { λ r. ⌜ r ≡ textAt (classesOf (now (t .entry))) (now (s .entry)) at ⌝ }
+pub fn until_line_end(s: &[u8], at: usize) -> Text
+    ensures { λ r. ⌜ r ≡ textAt paper (now (s .entry)) at ⌝ }
 {
-    let end = text_end(t, s, at);
+    let end = text_end(s, at);
     let Past::At(next) = newline(s, end) else {
         return Text::Unended;
     };
     Text::Ended { end, next }
 }
 
-// The place behind the next LF, or the end; the place itself where that is beyond the end.
+// The place behind the next LF, or the end; the place itself where that is beyond the end. Sixteen bytes a step where no LF is among them.
 pub fn line_end(s: &[u8], at: usize) -> usize
+    ensures { λ r. ⌜ r ≡ at + lineLen (drop at (now (s .entry))) ⌝ }
+{
+    let mut i = at;
+    while i < s.len() {
+        if s.len() - i < 16 {
+            break;
+        }
+        if block::among16(s, i, b'\n') {
+            break;
+        }
+        i += 16;
+    }
+    line_end_by_one(s, i)
+}
+
+// The same byte by byte.
+fn line_end_by_one(s: &[u8], at: usize) -> usize
     ensures { λ r. ⌜ r ≡ at + lineLen (drop at (now (s .entry))) ⌝ }
 {
     let mut i = at;

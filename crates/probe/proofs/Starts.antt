@@ -1,5 +1,5 @@
 -- Line starts and record starts, by what stands before a place.
-use mathlib.Core.Path.{_≡_, refl, sym, ap}
+use mathlib.Core.Path.{_≡_, refl, sym, ap, _∙_}
 use mathlib.Core.Bool.{Bool, true, false}
 use mathlib.Core.List.{List}
 use Prim.Native.Nat.{ℕ, zero, suc, _+_, _-_, _≤_, _<_}
@@ -9,6 +9,8 @@ use mathlib.Core.Logic.{inl, inr}
 use lib.Dec.{ltb, eqb}
 use lib.ListN.{getD, length, List·getD-eq-default}
 use borrow.Author.Tests.{eq-eqb, ne-eqb, eqb-true, eqb-false, ltb-true, ltb-false}
+use Rattle.word.specs.Low.{lastLowAt}
+use Rattle.word.proofs.Lows.{last-low-run}
 use Rattle.parse.specs.Choice.{if}
 use Rattle.probe.specs.RecordStart.{lineStart, recordStart}
 
@@ -32,6 +34,18 @@ module _ (s : List ℕ) where
   line-skip i (suc k) none =
       let q : i + suc k ≡ suc (i + k) = omega arith in
       rw (q, ne-eqb (getD s (i + k) 0) 10 (none k (omega arith))) (line-skip i k (λ j h. none j (omega arith)))
+
+  -- a look at the eight bytes before a place goes back over those behind the last low one: line feeds are low
+  pub look-back : (i n : ℕ) → 8 ≤ i → n ≡ lastLowAt s (i - 8) → n ≤ 8 → lineStart s i ≡ lineStart s (i - n)
+  look-back i n h e m =
+      let whole : i - n + n ≡ i = omega arith in
+      ap (lineStart s) (sym whole) ∙ line-skip (i - n) n none
+    where
+      none : (j : ℕ) → j < n → getD s (i - n + j) 0 ≡ 10 → ⊥
+      none j l q =
+          let k = 8 - n + j in
+          let same : getD s (i - 8 + k) 0 ≡ getD s (i - n + j) 0 = ap (λ (x : ℕ). getD s x 0) (omega arith) in
+          omega (arith, same, q, last-low-run s (i - 8) n (sym e) m .1 k (omega arith) (omega arith))
 
   pub line-le : (i : ℕ) → lineStart s i ≤ i
   line-le zero = omega arith

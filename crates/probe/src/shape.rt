@@ -1,6 +1,6 @@
 // The name of a record by shape only: hex and name rules aren't looked at.
 ghost use mathlib.Core.Path.{_≡_};
-ghost use Rattle.class.specs.Class.{classesOf};
+ghost use Rattle.class.specs.Class.{paper};
 ghost use Rattle.probe.specs.Shape.{shapeOf};
 use parse::line::Text;
 use parse::part::Past;
@@ -12,13 +12,13 @@ pub enum Shape {
 }
 
 // The shape of the record at the front of the bytes.
-pub fn name_at_record_start(t: &[u8; 256], s: &[u8], n: usize) -> Shape
-    ensures { λ r. ⌜ r ≡ shapeOf (classesOf (now (t .entry))) n (now (s .entry)) ⌝ }
+pub fn name_at_record_start(s: &[u8], n: usize) -> Shape
+    ensures { λ r. ⌜ r ≡ shapeOf paper n (now (s .entry)) ⌝ }
 {
     let Past::At(from) = parse::part::past_byte(s, n, b' ') else {
         return Shape::Fails;
     };
-    let Text::Ended { end, next: _ } = parse::line::until_line_end(t, s, from) else {
+    let Text::Ended { end, next: _ } = parse::line::until_line_end(s, from) else {
         return Shape::Fails;
     };
     if end <= from {

@@ -31,8 +31,35 @@ pub(crate) fn line_start(s: &[u8], place: usize) -> usize
     line_start_within(s, place)
 }
 
-// Sixteen bytes a step where there is no LF, then byte by byte.
+// Eight bytes a step, eight times at most: most lines are short. Then sixteen a step.
 fn line_start_within(s: &[u8], place: usize) -> usize
+    requires { ⌜ place ≤ length (now s) ⌝ }
+    ensures { λ r. ⌜ r ≡ lineStart (now (s .entry)) place ⌝ }
+{
+    let mut i = place;
+    let mut steps: usize = 0;
+    while steps < 8 {
+        if i < 8 {
+            break;
+        }
+        let n = word::last_low(s, i - 8);
+        if n < 8 {
+            if s[i - n - 1] == b'\n' {
+                return i - n;
+            }
+            break;
+        }
+        if 8 < n {
+            break;
+        }
+        i -= 8;
+        steps += 1;
+    }
+    by_sixteen(s, i)
+}
+
+// Sixteen bytes a step where there is no LF, then byte by byte.
+fn by_sixteen(s: &[u8], place: usize) -> usize
     requires { ⌜ place ≤ length (now s) ⌝ }
     ensures { λ r. ⌜ r ≡ lineStart (now (s .entry)) place ⌝ }
 {

@@ -3,7 +3,7 @@ ghost use mathlib.Core.Path.{_≡_};
 ghost use mathlib.Core.List.{_∷_, []};
 ghost use Prim.Native.Nat.{_+_, _*_};
 ghost use lib.ListN.{getD, length, drop};
-ghost use Rattle.class.specs.Class.{classesOf};
+ghost use Rattle.class.specs.Class.{paper};
 ghost use Rattle.checks.specs.Check.{judgeBody};
 ghost use Rattle.iter.specs.Items.{items};
 ghost use Rattle.put.specs.Put.{over};
@@ -16,7 +16,6 @@ use compare::order::Order;
 // has two marks, in the index's order: where its run starts, and where it ends. They are put to the front of `marks`; what has no room is left out.
 // At the first fault the check ends, and the edits that are not settled by then get no marks.
 pub fn survey(
-    t: &[u8; 256],
     n: usize,
     file: &[u8],
     body: usize,
@@ -24,15 +23,15 @@ pub fn survey(
     index: &[u32],
     marks: &mut [usize],
 ) -> Verdict
-    ensures { λ r. ⌜ r ≡ judgeBody (classesOf (now (t .entry))) n (now (file .entry)) body ⌝ }
-    ensures { λ _. ⌜ now (marks .exit) ≡ over (now (marks .entry)) 0 (marksOf (surveyed n (now (list .entry)) body [] (items (classesOf (now (t .entry))) n (drop body (now (file .entry)))) (now (index .entry)))) ⌝ }
+    ensures { λ r. ⌜ r ≡ judgeBody paper n (now (file .entry)) body ⌝ }
+    ensures { λ _. ⌜ now (marks .exit) ≡ over (now (marks .entry)) 0 (marksOf (surveyed n (now (list .entry)) body [] (items paper n (drop body (now (file .entry)))) (now (index .entry)))) ⌝ }
 {
     let mut place = body;
     let mut count = 0;
     let mut last = &file[0..0];
     let mut j = 0;
     loop {
-        match checks::take_turn(t, n, file, place, last) {
+        match checks::take_turn(n, file, place, last) {
             Turn::End => {
                 settle_rest(index, j, place, marks);
                 return Verdict::Clean(count);

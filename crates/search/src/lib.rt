@@ -1,6 +1,6 @@
 // The search: halving over the places of a body, each probe reading the name of the record that the place lies in.
 ghost use mathlib.Core.Path.{_≡_};
-ghost use Rattle.class.specs.Class.{classesOf};
+ghost use Rattle.class.specs.Class.{paper};
 ghost use Rattle.search.specs.Search.{searchOf, probedOf};
 use compare::order::Order;
 use probe::shape::Shape;
@@ -20,8 +20,8 @@ pub struct Probed {
 }
 
 // The search for any bytes in a body, with ids of n digits and a table of byte classes.
-pub fn search(t: &[u8; 256], n: usize, s: &[u8], wanted: &[u8]) -> Halved
-    ensures { λ r. ⌜ r ≡ searchOf (classesOf (now (t .entry))) n (now (s .entry)) (now (wanted .entry)) ⌝ }
+pub fn search(n: usize, s: &[u8], wanted: &[u8]) -> Halved
+    ensures { λ r. ⌜ r ≡ searchOf paper n (now (s .entry)) (now (wanted .entry)) ⌝ }
 {
     let mut low = 0;
     let mut high = s.len();
@@ -35,7 +35,7 @@ pub fn search(t: &[u8; 256], n: usize, s: &[u8], wanted: &[u8]) -> Halved
         }
         let middle = low + (high - low) / 2;
         let start = probe::start::record_start(s, middle);
-        let probed = probe(t, n, parse::part::between(s, start, s.len()), wanted);
+        let probed = probe(n, parse::part::between(s, start, s.len()), wanted);
         failed = failed | probed.failed;
         let order = probed.order;
         match order {
@@ -53,10 +53,10 @@ pub fn search(t: &[u8; 256], n: usize, s: &[u8], wanted: &[u8]) -> Halved
 }
 
 // The name at the front of the bytes, by shape only, against the wanted one. A shape that fails counts as an empty name.
-pub(crate) fn probe(t: &[u8; 256], n: usize, s: &[u8], wanted: &[u8]) -> Probed
-    ensures { λ r. ⌜ r ≡ probedOf (classesOf (now (t .entry))) n (now (s .entry)) (now (wanted .entry)) ⌝ }
+pub(crate) fn probe(n: usize, s: &[u8], wanted: &[u8]) -> Probed
+    ensures { λ r. ⌜ r ≡ probedOf paper n (now (s .entry)) (now (wanted .entry)) ⌝ }
 {
-    match probe::shape::name_at_record_start(t, s, n) {
+    match probe::shape::name_at_record_start(s, n) {
         Shape::NameLen(len) => {
             let from = n + 1;
             Probed {

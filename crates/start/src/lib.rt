@@ -1,6 +1,6 @@
 // Where the iteration of a whole file starts.
 ghost use mathlib.Core.Path.{_≡_};
-ghost use Rattle.class.specs.Class.{classesOf};
+ghost use Rattle.class.specs.Class.{paper};
 ghost use Rattle.start.specs.Start.{startOf, startAnswer, startLine};
 use header::Opened;
 use parse::limit::Admission;
@@ -22,20 +22,17 @@ pub fn begin(kind: u32, file: &[u8]) -> StartAnswer
     ensures { λ r. ⌜ r ≡ startAnswer kind (now (file .entry)) ⌝ }
 {
     match parse::limit::admit(kind, file.len(), 0) {
-        Admission::Digits(_) => {
-            let t = class::table();
-            StartAnswer::Done(begin_using(&t, file))
-        }
+        Admission::Digits(_) => { StartAnswer::Done(begin_without_kind(file)) }
         Admission::UnknownKind => StartAnswer::UnknownKind,
         Admission::TooLarge => StartAnswer::TooLarge,
     }
 }
 
-// The same, using a table of byte classes that the caller lends.
-pub fn begin_using(t: &[u8; 256], file: &[u8]) -> Start
-    ensures { λ r. ⌜ r ≡ startOf (classesOf (now (t .entry))) (now (file .entry)) ⌝ }
+// The same without a kind; a file of any size is taken.
+pub fn begin_without_kind(file: &[u8]) -> Start
+    ensures { λ r. ⌜ r ≡ startOf paper (now (file .entry)) ⌝ }
 {
-    match header::open(t, file) {
+    match header::open(file) {
         Opened::Unreadable(text) => Start::BadHeader(text),
         Opened::Header(h) => Start::At {
             place: h.body,

@@ -1,8 +1,7 @@
--- `ask::ask` meets its contract: 1 and 17 first, and the table's classes are the paper's.
+-- `ask::ask` meets its contract: 1 and 17 first, then the rest.
 use mathlib.Core.Path.{sym, ap, _∙_}
-use Rattle.class.proofs.Classes.{by-paper}
 use Rattle.ask.specs.declared.AskAnswer.the-variants.{Done}
-use Rattle.ask.specs.Ask.{askOf, askAnswer}
+use Rattle.ask.specs.Ask.{askAnswer}
 use borrow.Author.Needs.{needs}
 use Rattle.ask.proofs.ask.Statement.{statement}
 use Rattle.ask.proofs.ask.Tie as tie
@@ -13,11 +12,8 @@ admit-requires c κs = search needs
 enum-known-n : tie.Need-enum-known-n
 enum-known-n c = search needs
 
-table-requires : tie.Need-table-requires
-table-requires c κs = search needs
-
-ask-using-requires : tie.Need-ask-using-requires
-ask-using-requires c κs = search needs
+ask-with-digits-requires : tie.Need-ask-with-digits-requires
+ask-with-digits-requires c κs = search needs
 
 enum-told : tie.Need-enum-told
 enum-told c = search needs
@@ -28,11 +24,8 @@ enum-told-2 c = search needs
 returns : tie.Need-returns
 unfolding askAnswer
 returns c =
-    let t = c .before .before in
-    let k = t .before in
-    let a = k .before .before .before .before .before .before .args in
-    rw (sym (k .before .before .before .admit .ensures) ∙ k .before .n .given .1)
-    (ap Done (c .ask-using .ensures ∙ by-paper (λ byte. askOf byte (k .before .n .given .0 .0) (a .file .now) (a .name .now)) (t .table .ensures)))
+    let k = c .before in
+    rw (sym (k .before .before .before .admit .ensures) ∙ k .before .n .given .1) (ap Done (c .ask-with-digits .ensures))
 
 returns-2 : tie.Need-returns-2
 unfolding askAnswer
@@ -48,8 +41,7 @@ ask-spec =
     (tie.spec
     admit-requires
     enum-known-n
-    table-requires
-    ask-using-requires
+    ask-with-digits-requires
     enum-told
     enum-told-2
     returns

@@ -5,7 +5,7 @@ use Prim.Native.Nat.{ℕ, _+_, _-_, _≤_}
 use native.Mathlib.Numerals.{add-one}
 use native.Mathlib.Omega.{arith}
 use lib.ListN.{length}
-use Rattle.class.specs.Class.{classesOf}
+use Rattle.class.specs.Class.{paper}
 use Rattle.compare.specs.Prefix.{same}
 use Rattle.decode.specs.declared.reference.Record.{Record}
 use Rattle.checks.specs.declared.Turn.{Turn}
@@ -23,11 +23,11 @@ use Rattle.ask.proofs.ask_body.Statement.{statement}
 use Rattle.ask.proofs.ask_body.Tie as tie
 
 abbrev Inv-loop : tie.InvT-loop
-Inv-loop t n file body name place₀ count₀ last₀ place count last =
-    (count ≤ place) × (askFrom (classesOf t) n file name place count last ≡ askBody (classesOf t) n file body name)
+Inv-loop n file body name place₀ count₀ last₀ place count last =
+    (count ≤ place) × (askFrom paper n file name place count last ≡ askBody paper n file body name)
 
 abbrev μ-loop : tie.MeasureT-loop
-μ-loop t n file body name place₀ count₀ last₀ place count last = length file - place
+μ-loop n file body name place₀ count₀ last₀ place count last = length file - place
 
 -- ---- what a turn tells, and what the whole then comes to
 
@@ -39,7 +39,7 @@ module _ (k : tie.After-take-turn Inv-loop μ-loop) where
   here =
       let l = k .before in
       let a = start .args in
-      record { byte = classesOf (a .t .now); n = a .n; file = a .file .now; place = l .loop .place; last = l .loop .last .now }
+      record { byte = paper; n = a .n; file = a .file .now; place = l .loop .place; last = l .loop .last .now }
 
   abbrev name : List ℕ
   name = start .args .name .now

@@ -4,7 +4,7 @@ use mathlib.Core.List.{List}
 use Prim.Native.Nat.{ℕ, _-_}
 use native.Mathlib.Omega.{arith}
 use lib.ListN.{length, drop, length-drop}
-use Rattle.class.specs.Class.{classesOf}
+use Rattle.class.specs.Class.{paper}
 use Rattle.compare.specs.Prefix.{same}
 use Rattle.parse.proofs.Fronts.{lineLen-some}
 use Rattle.decode.specs.declared.reference.Reading.{Reading}
@@ -17,10 +17,10 @@ use Rattle.ask.proofs.first_named.Statement.{statement}
 use Rattle.ask.proofs.first_named.Tie as tie
 
 abbrev Inv-loop : tie.InvT-loop
-Inv-loop t n file from name place₀ place = soughtFrom (classesOf t) n file place name ≡ soughtFrom (classesOf t) n file from name
+Inv-loop n file from name place₀ place = soughtFrom paper n file place name ≡ soughtFrom paper n file from name
 
 abbrev μ-loop : tie.MeasureT-loop
-μ-loop t n file from name place₀ place = length file - place
+μ-loop n file from name place₀ place = length file - place
 
 loop-holds : tie.Need-loop-holds Inv-loop μ-loop
 loop-holds c = refl
@@ -47,7 +47,7 @@ line-end-requires c κs = search needs
 
 -- what is read at the turn's place
 abbrev Read : tie.At-loop Inv-loop μ-loop → Reading → Type 0
-Read l what = let a = l .before .before .before .args in Reads (classesOf (a .t .now)) (a .n) (a .file .now) (l .loop .place) what
+Read l what = let a = l .before .before .before .args in Reads paper (a .n) (a .file .now) (l .loop .place) what
 
 abbrev name : tie.At-loop Inv-loop μ-loop → List ℕ
 name l = l .before .before .before .args .name .now
@@ -114,7 +114,7 @@ returns-2 : tie.Need-returns-2 Inv-loop μ-loop
 returns-2 c =
     let l = c .before in
     let a = l .before .before .before .args in
-    sym (seek-end (classesOf (a .t .now)) (a .n) (a .file .now) (name l) (l .loop .place) (c .loop-test .left)) ∙ l .loop .inv
+    sym (seek-end paper (a .n) (a .file .now) (name l) (l .loop .place) (c .loop-test .left)) ∙ l .loop .inv
 
 pub first-named-spec : {M : Type 1} → statement M
 first-named-spec =

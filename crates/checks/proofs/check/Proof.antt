@@ -1,8 +1,7 @@
--- `checks::check` meets its contract: 1 and 17 first, and the table's classes are the paper's.
+-- `checks::check` meets its contract: 1 and 17 first, then the rest.
 use mathlib.Core.Path.{sym, ap, _∙_}
-use Rattle.class.proofs.Classes.{by-paper}
 use Rattle.checks.specs.declared.CheckAnswer.the-variants.{Done}
-use Rattle.checks.specs.Check.{checkOf, checkAnswer}
+use Rattle.checks.specs.Check.{checkAnswer}
 use borrow.Author.Needs.{needs}
 use Rattle.checks.proofs.check.Statement.{statement}
 use Rattle.checks.proofs.check.Tie as tie
@@ -13,11 +12,8 @@ admit-requires c κs = search needs
 enum-known-n : tie.Need-enum-known-n
 enum-known-n c = search needs
 
-table-requires : tie.Need-table-requires
-table-requires c κs = search needs
-
-check-using-requires : tie.Need-check-using-requires
-check-using-requires c κs = search needs
+check-with-digits-requires : tie.Need-check-with-digits-requires
+check-with-digits-requires c κs = search needs
 
 enum-told : tie.Need-enum-told
 enum-told c = search needs
@@ -28,11 +24,8 @@ enum-told-2 c = search needs
 returns : tie.Need-returns
 unfolding checkAnswer
 returns c =
-    let t = c .before .before in
-    let k = t .before in
-    let a = k .before .before .before .before .before .args in
-    rw (sym (k .before .before .before .admit .ensures) ∙ k .before .n .given .1)
-    (ap Done (c .check-using .ensures ∙ by-paper (λ byte. checkOf byte (k .before .n .given .0 .0) (a .file .now)) (t .table .ensures)))
+    let k = c .before in
+    rw (sym (k .before .before .before .admit .ensures) ∙ k .before .n .given .1) (ap Done (c .check-with-digits .ensures))
 
 returns-2 : tie.Need-returns-2
 unfolding checkAnswer
@@ -48,8 +41,7 @@ check-spec =
     (tie.spec
     admit-requires
     enum-known-n
-    table-requires
-    check-using-requires
+    check-with-digits-requires
     enum-told
     enum-told-2
     returns

@@ -4,7 +4,7 @@ use Prim.Native.Nat.{_-_, _≤_}
 use native.Mathlib.Numerals.{add-one}
 use native.Mathlib.Omega.{arith}
 use lib.ListN.{length, drop}
-use Rattle.class.specs.Class.{classesOf}
+use Rattle.class.specs.Class.{paper}
 use Rattle.checks.specs.declared.Turn.{Turn}
 use Rattle.checks.specs.declared.Turn.the-variants.{On}
 use Rattle.iter.specs.Items.{items}
@@ -16,11 +16,11 @@ use Rattle.checks.proofs.check_from.Statement.{statement}
 use Rattle.checks.proofs.check_from.Tie as tie
 
 abbrev Inv-loop : tie.InvT-loop
-Inv-loop t n file from passed name place₀ count₀ last₀ place count last =
-    (count ≤ place) × (judge n place count last (items (classesOf t) n (drop place file)) ≡ judgeFrom (classesOf t) n file from (countBefore passed from) name)
+Inv-loop n file from passed name place₀ count₀ last₀ place count last =
+    (count ≤ place) × (judge n place count last (items paper n (drop place file)) ≡ judgeFrom paper n file from (countBefore passed from) name)
 
 abbrev μ-loop : tie.MeasureT-loop
-μ-loop t n file from passed name place₀ count₀ last₀ place count last = length file - place
+μ-loop n file from passed name place₀ count₀ last₀ place count last = length file - place
 
 -- what a turn tells, and what the whole then comes to
 module _ (k : tie.After-take-turn Inv-loop μ-loop) where
@@ -31,7 +31,7 @@ module _ (k : tie.After-take-turn Inv-loop μ-loop) where
   here =
       let l = k .before in
       let a = start .args in
-      record { byte = classesOf (a .t .now); n = a .n; file = a .file .now; place = l .loop .place; last = l .loop .last .now }
+      record { byte = paper; n = a .n; file = a .file .now; place = l .loop .place; last = l .loop .last .now }
 
   tells : (w : Turn) → k .take-turn .result ≡ w → Turned here w
   tells w = turned here _ w (k .take-turn .ensures)

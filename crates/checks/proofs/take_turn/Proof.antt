@@ -3,7 +3,7 @@ use mathlib.Core.Path.{_≡_, sym, ap, _∙_}
 use mathlib.Core.Bool.{Bool}
 use borrow.Author.Tests.{not-true, not-false}
 use Rattle.parse.specs.Choice.{if}
-use Rattle.class.specs.Class.{classesOf}
+use Rattle.class.specs.Class.{paper}
 use Rattle.compare.specs.Order.{smaller}
 use Rattle.decode.specs.declared.reference.Record.{Record}
 use Rattle.decode.specs.declared.reference.Reading.the-variants.{Good}
@@ -16,7 +16,7 @@ use Rattle.checks.proofs.take_turn.Statement.{statement}
 use Rattle.checks.proofs.take_turn.Tie as tie
 
 abbrev spot : tie.Start → Spot
-spot s = record { byte = classesOf (s .args .t .now); n = s .args .n; file = s .args .file .now; place = s .args .place; last = s .args .last .now }
+spot s = record { byte = paper; n = s .args .n; file = s .args .file .now; place = s .args .place; last = s .args .last .now }
 
 module _ (k : tie.After-reference) where
   abbrev here : Spot

@@ -7,7 +7,7 @@ use native.Mathlib.Omega.{arith}
 use borrow.Author.Tests.{not-true, not-false, leb-true}
 use lib.Dec.{leb}
 use lib.ListN.{length}
-use Rattle.class.specs.Class.{Classes, classesOf}
+use Rattle.class.specs.Class.{Classes, paper}
 use Rattle.name.specs.Name.{validName}
 use Rattle.parts.specs.Parts.{editName}
 use Rattle.edit.proofs.Readings.{empty-name, long-name, cut-short, bad-name, good-name}
@@ -19,7 +19,7 @@ use Rattle.edit.proofs.behind_length.Tie as tie
 
 module _ (b : tie.Start) where
   abbrev byte : Classes
-  byte = classesOf (b .args .t .now)
+  byte = paper
 
   abbrev s : List ℕ
   s = b .args .s .now
@@ -47,15 +47,15 @@ module _ (f : tie.Else3) where
   inside = leb-true (end (start sized)) (length (s (start sized))) stands
 
 -- the name is held against the name rules
-module _ (v : tie.After-is-valid-using) where
+module _ (v : tie.After-is-valid) where
   abbrev full : tie.Else3
   full = v .before .before
 
   abbrev its-start : tie.Start
   its-start = start (sized full)
 
-  valid-is : validName (byte its-start) (name its-start) ≡ v .is-valid-using .result
-  valid-is = ap (validName (byte its-start)) (sym (v .before .edit-name .ensures)) ∙ sym (v .is-valid-using .ensures)
+  valid-is : validName (byte its-start) (name its-start) ≡ v .is-valid .result
+  valid-is = ap (validName (byte its-start)) (sym (v .before .edit-name .ensures)) ∙ sym (v .is-valid .ensures)
 
 returns : tie.Need-returns
 returns c = let b = c .before .before in let a = b .args in sym (empty-name (byte b) (s b) (a .from) (a .len) (a .ids) (c .if1 .taken))
@@ -81,8 +81,8 @@ returns-3 c =
 edit-name-requires : tie.Need-edit-name-requires
 edit-name-requires c κs = search needs
 
-is-valid-using-requires : tie.Need-is-valid-using-requires
-is-valid-using-requires c κs = search needs
+is-valid-requires : tie.Need-is-valid-requires
+is-valid-requires c κs = search needs
 
 returns-4 : tie.Need-returns-4
 returns-4 c =
@@ -113,4 +113,4 @@ returns-5 c =
 pub behind-length-spec : {M : Type 1} → statement M
 behind-length-spec =
     tie.close
-    (tie.spec returns returns-2 stands-requires returns-3 edit-name-requires is-valid-using-requires returns-4 add-size add-size-2 returns-5)
+    (tie.spec returns returns-2 stands-requires returns-3 edit-name-requires is-valid-requires returns-4 add-size add-size-2 returns-5)

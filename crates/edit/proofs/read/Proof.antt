@@ -3,7 +3,7 @@ use mathlib.Core.Path.{_≡_, sym, ap, _∙_}
 use mathlib.Core.List.{List}
 use Prim.Native.Nat.{ℕ, _*_, _/_, _≤_}
 use native.Mathlib.Omega.{arith}
-use Rattle.class.specs.Class.{Classes, classesOf}
+use Rattle.class.specs.Class.{Classes, paper}
 use Rattle.length.specs.declared.Length.the-variants.{Of}
 use Rattle.length.specs.Length.{lengthAt}
 use Rattle.parts.specs.Parts.{editKind}
@@ -17,7 +17,7 @@ use Rattle.edit.proofs.read.Tie as tie
 
 module _ (b : tie.Start) where
   abbrev byte : Classes
-  byte = classesOf (b .args .t .now)
+  byte = paper
 
   abbrev n : ℕ
   n = b .args .n

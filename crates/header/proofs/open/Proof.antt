@@ -6,7 +6,7 @@ use mathlib.Core.Bool.{true}
 use mathlib.Core.List.{List}
 use Prim.Native.Nat.{ℕ, _-_}
 use lib.ListN.{getD, take, drop, List·getD-eq-default}
-use Rattle.class.specs.Class.{Classes, classesOf}
+use Rattle.class.specs.Class.{Classes, paper}
 use Rattle.compare.specs.Prefix.{begins}
 use Rattle.header.specs.declared.Opened.the-variants.{Header, Unreadable}
 use Rattle.header.specs.Header.{mark, tokens, allNoted}
@@ -21,7 +21,7 @@ module _ (m : tie.Else3) where
   hashed = m .before .before .before
 
   abbrev byte : Classes
-  byte = classesOf (hashed .before .before .before .before .args .t .now)
+  byte = paper
 
   abbrev file : List ℕ
   file = hashed .before .before .before .before .args .file .now
@@ -36,7 +36,7 @@ returns : tie.Need-returns
 returns c =
     let a = c .before .before .before .args in
     let none : getD (a .file .now) 0 0 ≡ 0 = List·getD-eq-default (a .file .now) 0 (omega arith) in
-    ap Header (c .plain .ensures) ∙ sym (no-hash (classesOf (a .t .now)) (a .file .now) (λ e. omega arith))
+    ap Header (c .plain .ensures) ∙ sym (no-hash paper (a .file .now) (λ e. omega arith))
 
 shared-slice-read-if2 : tie.Need-shared-slice-read-if2
 shared-slice-read-if2 c = search needs
@@ -47,7 +47,7 @@ plain-requires-2 c κs = search needs
 returns-2 : tie.Need-returns-2
 returns-2 c =
     let a = c .before .before .before .before .before .args in
-    ap Header (c .plain2 .ensures) ∙ sym (no-hash (classesOf (a .t .now)) (a .file .now) (c .before .if2 .taken))
+    ap Header (c .plain2 .ensures) ∙ sym (no-hash paper (a .file .now) (c .before .if2 .taken))
 
 slice-aggregate-begins-with : tie.Need-slice-aggregate-begins-with
 slice-aggregate-begins-with c = search needs
@@ -64,7 +64,7 @@ returns-3 c =
     let hash = b .before .before in
     let a = hash .before .before .before .before .args in
     ap Unreadable (c .first-line .ensures)
-    ∙ sym (no-mark (classesOf (a .t .now)) (a .file .now) (hash .if2 .left) (sym (b .begins-with .ensures) ∙ not-true _ (c .before .if3 .taken)))
+    ∙ sym (no-mark paper (a .file .now) (hash .if2 .left) (sym (b .begins-with .ensures) ∙ not-true _ (c .before .if3 .taken)))
 
 until-line-end-requires : tie.Need-until-line-end-requires
 until-line-end-requires c κs = search needs

@@ -1,63 +1,51 @@
--- `id::hex_hash` meets its contract: eight digits that are there are passed over, the rest goes one by one.
-use mathlib.Core.Path.{_≡_, refl, sym, _∙_}
+-- `id::hex_hash` meets its contract: beyond the end stand no digits, and fewer bytes than n hold fewer digits.
+use mathlib.Core.Path.{sym, ap, _∙_}
 use native.Mathlib.Omega.{arith}
-use borrow.Author.Tests.{not-false}
-use Rattle.class.specs.Class.{classesOf}
-use Rattle.id.specs.Id.{idAt}
-use Rattle.id.proofs.Ids.{id-skip}
+use borrow.Author.Tests.{leb-true, leb-false}
+use lib.ListN.{drop, length-drop}
+use Rattle.parse.specs.declared.part.Past.the-variants.{At}
+use Rattle.class.specs.Class.{paper, isHex}
+use Rattle.parse.proofs.Runs.{span-le, span-end}
+use Rattle.id.proofs.Ids.{id-read, id-unread}
 use borrow.Author.Needs.{needs}
 use Rattle.id.proofs.hex_hash.Statement.{statement}
 use Rattle.id.proofs.hex_hash.Tie as tie
 
-abbrev Inv-loop : tie.InvT-loop
-Inv-loop t s at n i₀ left₀ i left = idAt (classesOf t) left s i ≡ idAt (classesOf t) n s at
+returns : tie.Need-returns
+returns c =
+    let a = c .before .before .before .args in
+    ap At (omega arith) ∙ sym (id-read paper (a .n) (a .s .now) (a .at) (omega arith))
 
-abbrev μ-loop : tie.MeasureT-loop
-μ-loop t s at n i₀ left₀ i left = left
+returns-2 : tie.Need-returns-2
+returns-2 c =
+    let a = c .before .before .before .args in
+    sym (id-unread paper (a .n) (a .s .now) (a .at) (omega (arith, span-end isHex (a .s .now) (a .at) (omega arith))))
 
-loop-holds : tie.Need-loop-holds Inv-loop μ-loop
-loop-holds c = refl
+sub-if3 : tie.Need-sub-if3
+sub-if3 c = search needs
 
-eight-requires : tie.Need-eight-requires Inv-loop μ-loop
-eight-requires c κs = search needs
+returns-3 : tie.Need-returns-3
+returns-3 c =
+    let a = c .before .before .before .args in
+    sym (id-unread paper (a .n) (a .s .now) (a .at) (omega (arith, span-le isHex (drop (a .at) (a .s .now)), length-drop (a .at) (a .s .now))))
 
-by-one-requires : tie.Need-by-one-requires Inv-loop μ-loop
-by-one-requires c κs = search needs
+all-hex-requires : tie.Need-all-hex-requires
+all-hex-requires c κs = search needs
 
-returns : tie.Need-returns Inv-loop μ-loop
-returns c = c .by-one .ensures ∙ c .before .before .before .before .loop .inv
+add-t9 : tie.Need-add-t9
+add-t9 c = search needs
 
-add-i : tie.Need-add-i Inv-loop μ-loop
-add-i c = omega (arith, c .before .eight .ensures (not-false _ (c .if1 .left)) .0, c .before .before .before .before .before .good)
+returns-4 : tie.Need-returns-4
+returns-4 c =
+    let a = c .before .before .before .before .before .args in
+    sym (id-read paper (a .n) (a .s .now) (a .at) (leb-true _ _ (sym (c .before .all-hex .ensures) ∙ c .if4 .taken)))
 
-loop-less : tie.Need-loop-less Inv-loop μ-loop
-loop-less c = search needs
-
-loop-again : tie.Need-loop-again Inv-loop μ-loop
-loop-again c =
-    let l = c .before .before .before in
-    let a = l .before .before .args in
-    let there = c .before .eight .ensures (not-false _ (c .if1 .left)) in
-    sym (id-skip (classesOf (a .t .now)) (l .loop .left) (a .s .now) (l .loop .i) 8 (search needs) (there .0) (there .1)) ∙ l .loop .inv
-
-by-one-requires-2 : tie.Need-by-one-requires-2 Inv-loop μ-loop
-by-one-requires-2 c κs = search needs
-
-returns-2 : tie.Need-returns-2 Inv-loop μ-loop
-returns-2 c = c .by-one2 .ensures ∙ c .before .before .loop .inv
+returns-5 : tie.Need-returns-5
+returns-5 c =
+    let a = c .before .before .before .before .before .args in
+    sym (id-unread paper (a .n) (a .s .now) (a .at) (leb-false _ _ (sym (c .before .all-hex .ensures) ∙ c .if4 .left)))
 
 pub hex-hash-spec : {M : Type 1} → statement M
 hex-hash-spec =
     tie.close
-    (tie.spec
-    Inv-loop
-    μ-loop
-    loop-holds
-    eight-requires
-    by-one-requires
-    returns
-    add-i
-    loop-less
-    loop-again
-    by-one-requires-2
-    returns-2)
+    (tie.spec returns returns-2 sub-if3 returns-3 all-hex-requires add-t9 returns-4 returns-5)

@@ -1,40 +1,31 @@
--- `line_number::text_len` meets its contract: the text from i on ends where the text from the place on ends.
+-- `line_number::text_len` meets its contract: sixteen bytes without a line feed are passed over, and the rest of the text ends where all of it does.
 use mathlib.Core.Path.{_≡_, refl, sym, ap, _∙_}
-use mathlib.Core.Bool.{Bool, not}
-use Prim.Native.Nat.{ℕ, _+_, _-_, _≤_}
+use mathlib.Core.Bool.{not}
+use Prim.Native.Nat.{_+_, _-_}
 use native.Mathlib.Omega.{arith}
-use borrow.Author.Tests.{eq-eqb, ne-eqb}
-use lib.Dec.{eqb}
 use lib.ListN.{length, drop}
-use Rattle.parse.proofs.Runs.{span-end, span-stop, span-go}
+use Rattle.block.proofs.Members.{none-among}
+use Rattle.parse.proofs.Runs.{skip}
 use Rattle.line_number.specs.LineNumber.{untilFeed}
+use Rattle.line_number.proofs.Feeds.{other}
 use borrow.Author.Needs.{needs}
 use Rattle.line_number.proofs.text_len.Statement.{statement}
 use Rattle.line_number.proofs.text_len.Tie as tie
 
--- any byte but a line feed
-abbrev other : ℕ → Bool
-other b = not (eqb b 10)
-
 abbrev Inv-loop : tie.InvT-loop
-Inv-loop s place i₀ i = (place ≤ i) × (i + untilFeed (drop i s) ≡ place + untilFeed (drop place s))
+Inv-loop s place i₀ i = i + untilFeed (drop i s) ≡ place + untilFeed (drop place s)
 
 abbrev μ-loop : tie.MeasureT-loop
 μ-loop s place i₀ i = length s - i
 
 loop-holds : tie.Need-loop-holds Inv-loop μ-loop
-loop-holds c = (omega arith, refl)
+loop-holds c = refl
 
-shared-slice-read-if1 : tie.Need-shared-slice-read-if1 Inv-loop μ-loop
-shared-slice-read-if1 c = search needs
+sub-if1 : tie.Need-sub-if1 Inv-loop μ-loop
+sub-if1 c = search needs
 
-sub-result : tie.Need-sub-result Inv-loop μ-loop
-sub-result c = omega (arith, c .before .before .before .loop .inv)
-
-returns : tie.Need-returns Inv-loop μ-loop
-returns c =
-    let l = c .before .before .before in
-    omega (arith, span-stop other (l .before .args .s .now) (l .loop .i) (search needs) (ap not (eq-eqb _ _ (c .if1 .taken))), l .loop .inv)
+among16-requires : tie.Need-among16-requires Inv-loop μ-loop
+among16-requires c κs = search needs
 
 add-i : tie.Need-add-i Inv-loop μ-loop
 add-i c = search needs
@@ -44,16 +35,19 @@ loop-less c = search needs
 
 loop-again : tie.Need-loop-again Inv-loop μ-loop
 loop-again c =
-    let l = c .before .before .before in
-    (omega (arith, l .loop .inv), sym (span-go other (l .before .args .s .now) (l .loop .i) (search needs) (ap not (ne-eqb _ _ (c .if1 .left)))) ∙ l .loop .inv .1)
+    let l = c .before .before .before .before in
+    let s = l .before .before .args .s .now in
+    let none = sym (c .before .among16 .ensures) ∙ c .if2 .left in
+    sym (skip other s (l .loop .i) 16 (search needs) (λ k h. ap not (none-among 10 s (l .loop .i) 16 k none h (search needs)))) ∙ l .loop .inv
 
-sub-result-2 : tie.Need-sub-result-2 Inv-loop μ-loop
-sub-result-2 c = omega (arith, c .before .loop .inv)
+by-eight-requires : tie.Need-by-eight-requires Inv-loop μ-loop
+by-eight-requires c κs = search needs
 
-returns-2 : tie.Need-returns-2 Inv-loop μ-loop
-returns-2 c =
-    let l = c .before in
-    omega (arith, span-end other (l .before .args .s .now) (l .loop .i) (c .loop-test .left), l .loop .inv)
+sub-result : tie.Need-sub-result Inv-loop μ-loop
+sub-result c = omega (arith, c .by-eight .ensures, c .before .before .loop .inv)
+
+returns : tie.Need-returns Inv-loop μ-loop
+returns c = omega (arith, c .by-eight .ensures, c .before .before .loop .inv)
 
 pub text-len-spec : {M : Type 1} → statement M
 text-len-spec =
@@ -62,11 +56,11 @@ text-len-spec =
     Inv-loop
     μ-loop
     loop-holds
-    shared-slice-read-if1
-    sub-result
-    returns
+    sub-if1
+    among16-requires
     add-i
     loop-less
     loop-again
-    sub-result-2
-    returns-2)
+    by-eight-requires
+    sub-result
+    returns)

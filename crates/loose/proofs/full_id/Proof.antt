@@ -1,8 +1,10 @@
 -- `loose::full_id` meets its contract: once n digits were read, the byte behind them decides.
 use mathlib.Core.Path.{sym, ap, _∙_}
 use mathlib.Core.Bool.{not}
+use lib.ListN.{getD}
 use borrow.Author.Needs.{needs}
-use Rattle.class.specs.Class.{classesOf}
+use Rattle.class.specs.Class.{paper}
+use Rattle.class.proofs.Classes.{by-paper}
 use Rattle.loose.proofs.Ids.{too-few, nothing-behind, by-next}
 use Rattle.loose.proofs.full_id.Statement.{statement}
 use Rattle.loose.proofs.full_id.Tie as tie
@@ -19,14 +21,14 @@ enum-told c = search needs
 returns : tie.Need-returns
 returns c =
     let a = c .before .before .before .before .args in
-    sym (too-few (classesOf (a .t .now)) (a .n) (a .s .now) (sym (c .before .before .hex-hash .ensures) ∙ c .enum-told .given .1))
+    sym (too-few paper (a .n) (a .s .now) (sym (c .before .before .hex-hash .ensures) ∙ c .enum-told .given .1))
 
 returns-2 : tie.Need-returns-2
 returns-2 c =
     let read = c .before in
     let a = read .before .before .before .before .before .args in
     let digits = sym (read .before .before .before .hex-hash .ensures) ∙ read .before .end .given .1 in
-    sym (nothing-behind (classesOf (a .t .now)) (a .n) (a .s .now) digits (c .if1 .taken))
+    sym (nothing-behind paper (a .n) (a .s .now) digits (c .if1 .taken))
 
 shared-slice-read-is-hex : tie.Need-shared-slice-read-is-hex
 shared-slice-read-is-hex c = search needs
@@ -40,7 +42,7 @@ returns-3 c =
     let read = more .before in
     let a = read .before .before .before .before .before .args in
     let digits = sym (read .before .before .before .hex-hash .ensures) ∙ read .before .end .given .1 in
-    ap not (c .is-hex .ensures) ∙ sym (by-next (classesOf (a .t .now)) (a .n) (a .s .now) digits (more .if1 .left))
+    ap not (c .is-hex .ensures ∙ by-paper (λ byte. byte .hex (getD (a .s .now) (read .before .end .given .0 .0) 0)) (read .before .before .before .before .before .pre)) ∙ sym (by-next paper (a .n) (a .s .now) digits (more .if1 .left))
 
 pub full-id-spec : {M : Type 1} → statement M
 full-id-spec =

@@ -1,9 +1,8 @@
--- `loose::read` meets its contract: 1 and 17 first, and the table's classes are the paper's.
+-- `loose::read` meets its contract: 1 and 17 first, then the rest.
 use mathlib.Core.Path.{sym, ap, _∙_}
 use borrow.Author.Needs.{needs}
-use Rattle.class.proofs.Classes.{by-paper}
 use Rattle.loose.specs.declared.LooseAnswer.the-variants.{Done}
-use Rattle.loose.specs.Loose.{looseOf, looseAnswer}
+use Rattle.loose.specs.Loose.{looseAnswer}
 use Rattle.loose.proofs.read.Statement.{statement}
 use Rattle.loose.proofs.read.Tie as tie
 
@@ -13,11 +12,8 @@ admit-requires c κs = search needs
 enum-known-n : tie.Need-enum-known-n
 enum-known-n c = search needs
 
-table-requires : tie.Need-table-requires
-table-requires c κs = search needs
-
-read-using-requires : tie.Need-read-using-requires
-read-using-requires c κs = search needs
+read-with-digits-requires : tie.Need-read-with-digits-requires
+read-with-digits-requires c κs = search needs
 
 enum-told : tie.Need-enum-told
 enum-told c = search needs
@@ -28,11 +24,8 @@ enum-told-2 c = search needs
 returns : tie.Need-returns
 unfolding looseAnswer
 returns c =
-    let t = c .before .before in
-    let k = t .before in
-    let a = k .before .before .before .before .before .args in
-    rw (sym (k .before .before .before .admit .ensures) ∙ k .before .n .given .1)
-    (ap Done (c .read-using .ensures ∙ by-paper (λ byte. looseOf byte (k .before .n .given .0 .0) (a .content .now)) (t .table .ensures)))
+    let k = c .before in
+    rw (sym (k .before .before .before .admit .ensures) ∙ k .before .n .given .1) (ap Done (c .read-with-digits .ensures))
 
 returns-2 : tie.Need-returns-2
 unfolding looseAnswer
@@ -48,8 +41,7 @@ read-spec =
     (tie.spec
     admit-requires
     enum-known-n
-    table-requires
-    read-using-requires
+    read-with-digits-requires
     enum-told
     enum-told-2
     returns

@@ -4,7 +4,6 @@ use mathlib.Core.List.{List, []}
 use Prim.Native.Nat.{ℕ, _*_, _≤_}
 use lib.ListN.{length, drop}
 use Rattle.class.specs.Class.{paper}
-use Rattle.class.proofs.Classes.{by-paper}
 use Rattle.decode.specs.Entry.{Entry}
 use Rattle.iter.specs.Entries.{entriesOf}
 use Rattle.checks.specs.Check.{judgeBody}
@@ -37,7 +36,7 @@ module _ (v : tie.After-survey) where
   room = length (start .args .out .now)
 
   verdict-is : judgeBody paper (start .args .n) (start .args .old .now) (start .args .body) ≡ v .survey .result
-  verdict-is = sym (v .survey .ensures .0 ∙ by-paper (λ byte. judgeBody byte (start .args .n) (start .args .old .now) (start .args .body)) (start .pre .0))
+  verdict-is = sym (v .survey .ensures .0)
 
   -- there is a mark for both ends of each run
   enough : 2 * length (start .args .index .now) ≤ length (v .before .before .no-marks .result)
@@ -76,12 +75,11 @@ returns c =
     let clean = verdict-is v ∙ told .enum-told .given .1 in
     let count = told .enum-told .given .0 .0 in
     let fresh = v .before .before .no-marks .result in
-    let marked = v .survey .last .1 .1 .1 .1 .1 .1 .0 in
+    let marked = v .survey .last .1 .1 .1 .1 .1 .0 in
     let marks = v .survey .ensures .1
-    ∙ by-paper (λ byte. over fresh 0 (marksOf (surveyed (a .n) (a .list .now) (a .body) [] (items byte (a .n) (drop (a .body) (a .old .now))) (a .index .now)))) (start v .pre .0)
     ∙ ap (λ l. over fresh 0 (marksOf l)) (surveyed-body paper (a .n) (a .old .now) (a .list .now) (a .body) (a .index .now) count clean) in
     let new = spliced-is-new (a .n) (a .old .now) (a .body) (a .list .now) (a .index .now) fresh marked count clean (enough v) marks in
-    let still = idle-is-still (a .n) (a .old .now) (a .list .now) (a .body) count (a .index .now) fresh marked clean (start v .pre .2) (enough v) marks in (
+    let still = idle-is-still (a .n) (a .old .now) (a .list .now) (a .body) count (a .index .now) fresh marked clean (start v .pre .1) (enough v) marks in (
       f .finish .ensures .0 ∙ finished-is _ _ (olds v) (edits v) (room v) still new ∙ ap (judgedBy (olds v) (edits v) (room v)) (sym clean),
       f .finish .ensures .1 ∙ ap (λ x. outputBy x (a .out .now) (f .finish .result)) new,
     )

@@ -5,8 +5,7 @@ use Prim.Native.Nat.{ℕ, _-_}
 use native.Mathlib.Nat.{sub-zero}
 use native.Mathlib.Omega.{arith}
 use lib.ListN.{length, take}
-use Rattle.class.specs.Class.{paper, classTable}
-use Rattle.class.proofs.Classes.{by-paper}
+use Rattle.class.specs.Class.{paper}
 use Rattle.edits.specs.declared.list.Prepared.{Prepared}
 use Rattle.edits.specs.declared.list.Prepared.the-variants.{Ready}
 use Rattle.edits.specs.List.{editsOf, placesOf, preparedOf, indexAfter}
@@ -23,7 +22,7 @@ use Rattle.merge.proofs.merge_with_digits.Tie as tie
 -- the edit list was read
 module _ (p : tie.After-prepare) where
   abbrev start : tie.Start
-  start = p .before .before .before .before .before .before .before .before
+  start = p .before .before .before .before .before .before
 
   abbrev n : ℕ
   n = start .args .n
@@ -40,14 +39,11 @@ module _ (p : tie.After-prepare) where
   abbrev out : List ℕ
   out = start .args .out .now
 
-  table-is : p .before .before .before .table .result ≡ classTable
-  table-is = p .before .before .before .table .ensures
-
   said : preparedOf paper n list (length index) ≡ p .prepare .result
-  said = sym (p .prepare .ensures .0 ∙ by-paper (λ byte. preparedOf byte n list (length index)) table-is)
+  said = sym (p .prepare .ensures .0)
 
-  index-after : p .prepare .last .1 .1 .1 .0 ≡ indexAfter paper n list index
-  index-after = p .prepare .ensures .1 ∙ by-paper (λ byte. indexAfter byte n list index) table-is
+  index-after : p .prepare .last .1 .1 .0 ≡ indexAfter paper n list index
+  index-after = p .prepare .ensures .1
 
   abbrev new : List ℕ
   new = newFile (oldEntries paper n old) (editsInOrder paper n old list)
@@ -74,19 +70,16 @@ module _ (r : tie.After-k) where
   abbrev sorted : List ℕ
   sorted = places paper (n prepared) (list prepared) (index prepared) k is-ready
 
-  front : take k (prepared .prepare .last .1 .1 .1 .0) ≡ sorted
+  front : take k (prepared .prepare .last .1 .1 .0) ≡ sorted
   front = ap (take k) (index-after prepared) ∙ front-is paper (n prepared) (list prepared) (index prepared) k is-ready
 
   -- the part of the index that is lent
-  part : take (k - 0) (prepared .prepare .last .1 .1 .1 .0) ≡ sorted
-  part = ap (λ j. take j (prepared .prepare .last .1 .1 .1 .0)) (sub-zero k) ∙ front
+  part : take (k - 0) (prepared .prepare .last .1 .1 .0) ≡ sorted
+  part = ap (λ j. take j (prepared .prepare .last .1 .1 .0)) (sub-zero k) ∙ front
 
   edits-are : editsAt (n prepared) (list prepared) sorted ≡ editsInOrder paper (n prepared) (old prepared) (list prepared)
   unfolding editsInOrder
   edits-are = refl
-
-table-requires : tie.Need-table-requires
-table-requires c κs = search needs
 
 prepare-requires : tie.Need-prepare-requires
 prepare-requires c κs = search needs
@@ -102,15 +95,14 @@ part-with-edits-start c = search needs
 
 part-with-edits-end : tie.Need-part-with-edits-end
 part-with-edits-end c =
-    let r = c .before .before .before in
+    let r = c .before .before in
     omega (arith, ap length (index-after (prepared r)), ready paper (n (prepared r)) (list (prepared r)) (index (prepared r)) (k r) (is-ready r) .room-enough)
 
 with-edits-requires : tie.Need-with-edits-requires
 with-edits-requires c κs =
-    let r = c .before .before .before .before .before in
+    let r = c .before .before .before .before in
     let p = prepared r in
     let is = ready paper (n p) (list p) (index p) (k r) (is-ready r) in (
-      table-is p,
       omega (arith, ap length (part r), is .in-order, is .few),
       rw (part r) (in-order-rising (list p) (placesOf (editsOf paper (n p) (list p))) (is .no-twin)),
     )
@@ -136,7 +128,7 @@ same-length-2 c = search needs
 returns : tie.Need-returns
 returns c =
     let w = c .before .before in
-    let r = w .before .before .before .before .before .before in
+    let r = w .before .before .before .before .before in
     let p = prepared r in
     let answer-is = w .with-edits .ensures .0
     ∙ ap (λ l. judged paper (n p) (old p) (editsAt (n p) (list p) l) (length (out p))) (part r)
@@ -192,7 +184,6 @@ pub merge-with-digits-spec : {M : Type 1} → statement M
 merge-with-digits-spec =
     tie.close
     (tie.spec
-    table-requires
     prepare-requires
     enum-known-k
     sub-with-edits

@@ -1,9 +1,8 @@
--- `merge::with_edits` meets its contract: by the header, which the table's classes read as the paper's do.
+-- `merge::with_edits` meets its contract: by the header.
 use mathlib.Core.Path.{_≡_, refl, sym, ap, _∙_}
 use mathlib.Core.List.{List}
 use lib.ListN.{length}
 use Rattle.class.specs.Class.{paper}
-use Rattle.class.proofs.Classes.{by-paper}
 use Rattle.header.specs.Header.{headerOf}
 use Rattle.merge.specs.Override.{Override, editsAt}
 use Rattle.merge.specs.Merge.{newFile, outputBy}
@@ -21,7 +20,7 @@ module _ (o : tie.After-open) where
   edits = editsAt (start .args .n) (start .args .list .now) (start .args .index .now)
 
   header-is : headerOf paper (start .args .old .now) ≡ o .«open» .result
-  header-is = sym (o .«open» .ensures ∙ by-paper (λ byte. headerOf byte (start .args .old .now)) (start .pre .0))
+  header-is = sym (o .«open» .ensures)
 
 open-requires : tie.Need-open-requires
 open-requires c κs = search needs

@@ -5,7 +5,7 @@ use Prim.Native.Nat.{ℕ, _+_, _*_, _-_, _≤_}
 use native.Mathlib.Numerals.{add-one}
 use native.Mathlib.Omega.{arith}
 use lib.ListN.{length, drop}
-use Rattle.class.specs.Class.{classesOf}
+use Rattle.class.specs.Class.{paper}
 use Rattle.decode.specs.declared.reference.Record.{Record}
 use Rattle.checks.specs.declared.Turn.{Turn}
 use Rattle.checks.specs.declared.Turn.the-variants.{On}
@@ -21,14 +21,14 @@ use Rattle.runs.proofs.survey.Statement.{statement}
 use Rattle.runs.proofs.survey.Tie as tie
 
 abbrev Inv-loop : tie.InvT-loop
-Inv-loop t n file body list index marks₀ place₀ count₀ last₀ j₀ marks place count last j =
+Inv-loop n file body list index marks₀ place₀ count₀ last₀ j₀ marks place count last j =
     (count ≤ place)
     × (length marks ≡ length marks₀)
-    × (judge n place count last (items (classesOf t) n (drop place file)) ≡ judgeBody (classesOf t) n file body)
-    × (marked (classesOf t) n file list index place last j marks ≡ marked (classesOf t) n file list index body [] 0 marks₀)
+    × (judge n place count last (items paper n (drop place file)) ≡ judgeBody paper n file body)
+    × (marked paper n file list index place last j marks ≡ marked paper n file list index body [] 0 marks₀)
 
 abbrev μ-loop : tie.MeasureT-loop
-μ-loop t n file body list index marks₀ place₀ count₀ last₀ j₀ marks place count last j = length file - place
+μ-loop n file body list index marks₀ place₀ count₀ last₀ j₀ marks place count last j = length file - place
 
 -- ---- what a turn tells, and what the whole then comes to
 
@@ -48,7 +48,7 @@ module _ (k : tie.After-take-turn Inv-loop μ-loop) where
   abbrev here : Spot
   here =
       let a = start .args in
-      record { byte = classesOf (a .t .now); n = a .n; file = a .file .now; place = l .loop .place; last = l .loop .last .now }
+      record { byte = paper; n = a .n; file = a .file .now; place = l .loop .place; last = l .loop .last .now }
 
   tells : (w : Turn) → k .take-turn .result ≡ w → Turned here w
   tells w = turned here _ w (k .take-turn .ensures)

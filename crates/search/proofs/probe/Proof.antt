@@ -4,7 +4,7 @@ use mathlib.Core.Bool.{true, false}
 use Prim.Native.Nat.{_+_, _-_}
 use native.Mathlib.Omega.{arith}
 use lib.ListN.{take, drop}
-use Rattle.class.specs.Class.{classesOf}
+use Rattle.class.specs.Class.{paper}
 use Rattle.compare.specs.Order.{orderOf}
 use Rattle.probe.proofs.Shapes.{shape-fits}
 use Rattle.search.specs.Search.{probedOf}
@@ -22,13 +22,13 @@ add-from : tie.Need-add-from
 add-from c =
     let k = c .before .before .before in
     let a = k .before .before .before .args in
-    omega (arith, shape-fits (classesOf (a .t .now)) (a .n) (a .s .now) (c .before .len .given .0 .0) (sym (k .name-at-record-start .ensures) ∙ c .before .len .given .1))
+    omega (arith, shape-fits paper (a .n) (a .s .now) (c .before .len .given .0 .0) (sym (k .name-at-record-start .ensures) ∙ c .before .len .given .1))
 
 add-between : tie.Need-add-between
 add-between c =
     let k = c .before .before .before in
     let a = k .before .before .before .args in
-    omega (arith, shape-fits (classesOf (a .t .now)) (a .n) (a .s .now) (c .before .len .given .0 .0) (sym (k .name-at-record-start .ensures) ∙ c .before .len .given .1))
+    omega (arith, shape-fits paper (a .n) (a .s .now) (c .before .len .given .0 .0) (sym (k .name-at-record-start .ensures) ∙ c .before .len .given .1))
 
 between-requires : tie.Need-between-requires
 between-requires c κs = search needs

@@ -4,7 +4,7 @@ use mathlib.Core.Bool.{Bool}
 use Prim.Native.Nat.{ℕ, _-_}
 use lib.ListN.{length, drop}
 use Rattle.compare.specs.declared.order.Order.{Order}
-use Rattle.class.specs.Class.{classesOf}
+use Rattle.class.specs.Class.{paper}
 use Rattle.parse.proofs.Slices.{rest-is}
 use Rattle.search.specs.declared.Halved.{Halved}
 use Rattle.search.specs.declared.Halved.the-variants.{Hit, Miss}
@@ -16,10 +16,10 @@ use Rattle.search.proofs.search.Statement.{statement}
 use Rattle.search.proofs.search.Tie as tie
 
 abbrev Inv-loop : tie.InvT-loop
-Inv-loop t n s wanted low₀ high₀ failed₀ low high failed = Going (orderAt (classesOf t) n s wanted) (failureAt (classesOf t) n s wanted) (length s) low high failed
+Inv-loop n s wanted low₀ high₀ failed₀ low high failed = Going (orderAt paper n s wanted) (failureAt paper n s wanted) (length s) low high failed
 
 abbrev μ-loop : tie.MeasureT-loop
-μ-loop t n s wanted low₀ high₀ failed₀ low high failed = high - low
+μ-loop n s wanted low₀ high₀ failed₀ low high failed = high - low
 
 loop-holds : tie.Need-loop-holds Inv-loop μ-loop
 loop-holds c = at-first _ _ _
@@ -55,7 +55,7 @@ loop-less c = search needs
 
 module _ (l : tie.At-loop Inv-loop μ-loop) where
   abbrev probes : ℕ → Probed
-  probes = let a = l .before .before .before .args in probedAt (classesOf (a .t .now)) (a .n) (a .s .now) (a .wanted .now)
+  probes = let a = l .before .before .before .args in probedAt paper (a .n) (a .s .now) (a .wanted .now)
 
   abbrev order : ℕ → Order
   order place = probes place .order
@@ -64,7 +64,7 @@ module _ (l : tie.At-loop Inv-loop μ-loop) where
   failure place = probes place .failed
 
   abbrev starts : Halved → Halved
-  starts = let a = l .before .before .before .args in placed (classesOf (a .t .now)) (a .n) (a .s .now) (a .wanted .now)
+  starts = let a = l .before .before .before .args in placed paper (a .n) (a .s .now) (a .wanted .now)
 
 -- the record that the middle lies in is probed
 module _ (p : tie.After-probe Inv-loop μ-loop) where
@@ -79,7 +79,7 @@ module _ (p : tie.After-probe Inv-loop μ-loop) where
       let a = turn .before .before .before .args in
       let start = p .before .before .record-start2 in
       let here = p .before .between .ensures ∙ rest-is (a .s .now) (start .result) ∙ ap (λ k. drop k (a .s .now)) (start .ensures) in
-      p .probe .ensures ∙ ap (λ x. probedOf (classesOf (a .t .now)) (a .n) x (a .wanted .now)) here
+      p .probe .ensures ∙ ap (λ x. probedOf paper (a .n) x (a .wanted .now)) here
 
   order-is : order turn half ≡ p .probe .result .order
   order-is = ap (λ (x : Probed). x .order) (sym said)

@@ -1,8 +1,7 @@
--- `start::begin` meets its contract: 1 and 17 first, and the table's classes are the paper's.
+-- `start::begin` meets its contract: 1 and 17 first, then the rest.
 use mathlib.Core.Path.{sym, ap, _∙_}
-use Rattle.class.proofs.Classes.{by-paper}
 use Rattle.start.specs.declared.StartAnswer.the-variants.{Done}
-use Rattle.start.specs.Start.{startOf, startAnswer}
+use Rattle.start.specs.Start.{startAnswer}
 use borrow.Author.Needs.{needs}
 use Rattle.start.proofs.begin.Statement.{statement}
 use Rattle.start.proofs.begin.Tie as tie
@@ -13,11 +12,8 @@ admit-requires c κs = search needs
 enum-told : tie.Need-enum-told
 enum-told c = search needs
 
-table-requires : tie.Need-table-requires
-table-requires c κs = search needs
-
-begin-using-requires : tie.Need-begin-using-requires
-begin-using-requires c κs = search needs
+begin-without-kind-requires : tie.Need-begin-without-kind-requires
+begin-without-kind-requires c κs = search needs
 
 enum-told-2 : tie.Need-enum-told-2
 enum-told-2 c = search needs
@@ -28,11 +24,8 @@ enum-told-3 c = search needs
 returns : tie.Need-returns
 unfolding startAnswer
 returns c =
-    let t = c .before .before in
-    let k = t .before in
-    let a = k .before .before .before .before .args in
-    rw (sym (k .before .before .admit .ensures) ∙ k .enum-told .given .1)
-    (ap Done (c .begin-using .ensures ∙ by-paper (λ byte. startOf byte (a .file .now)) (t .table .ensures)))
+    let k = c .before in
+    rw (sym (k .before .before .admit .ensures) ∙ k .enum-told .given .1) (ap Done (c .begin-without-kind .ensures))
 
 returns-2 : tie.Need-returns-2
 unfolding startAnswer
@@ -48,8 +41,7 @@ begin-spec =
     (tie.spec
     admit-requires
     enum-told
-    table-requires
-    begin-using-requires
+    begin-without-kind-requires
     enum-told-2
     enum-told-3
     returns

@@ -7,7 +7,7 @@ use lib.ListN.{take, drop}
 use borrow.Author.Tests.{not-true, not-false}
 use Rattle.parse.specs.declared.part.Past.the-variants.{At, Unread}
 use Rattle.parse.specs.declared.line.Text.the-variants.{Ended}
-use Rattle.class.specs.Class.{Classes, classesOf}
+use Rattle.class.specs.Class.{Classes, paper}
 use Rattle.parse.specs.Part.{byteAt}
 use Rattle.id.specs.Id.{idAt}
 use Rattle.parse.specs.Line.{newlineAt, textAt}
@@ -25,7 +25,7 @@ use Rattle.decode.proofs.reference.reference.Tie as tie
 
 module _ (b : tie.Start) where
   abbrev byte : Classes
-  byte = classesOf (b .args .t .now)
+  byte = paper
 
   abbrev n : ℕ
   n = b .args .n
@@ -76,12 +76,12 @@ module _ (e : tie.After-end) where
   text = sym (e .before .before .until-line-end .ensures) ∙ e .end .given .1
 
 -- the text is held against the name rules
-module _ (v : tie.After-is-valid-using) where
+module _ (v : tie.After-is-valid) where
   abbrev with-text : tie.After-end
   with-text = v .before .before .before
 
-  valid-is : validName (byte (text-start with-text)) (name-text with-text) ≡ v .is-valid-using .result
-  valid-is = ap (validName (byte (text-start with-text))) (sym (v .before .between .ensures)) ∙ sym (v .is-valid-using .ensures)
+  valid-is : validName (byte (text-start with-text)) (name-text with-text) ≡ v .is-valid .result
+  valid-is = ap (validName (byte (text-start with-text))) (sym (v .before .between .ensures)) ∙ sym (v .is-valid .ensures)
 
 -- it is a name
 module _ (g : tie.Else1) where
@@ -179,8 +179,8 @@ returns-3 c =
 between-requires : tie.Need-between-requires
 between-requires c κs = search needs
 
-is-valid-using-requires : tie.Need-is-valid-using-requires
-is-valid-using-requires c κs = search needs
+is-valid-requires : tie.Need-is-valid-requires
+is-valid-requires c κs = search needs
 
 returns-4 : tie.Need-returns-4
 returns-4 c =
@@ -265,7 +265,7 @@ reference-spec =
     enum-told-3
     returns-3
     between-requires
-    is-valid-using-requires
+    is-valid-requires
     returns-4
     sub-name-len
     past-byte-requires-2

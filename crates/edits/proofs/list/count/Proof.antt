@@ -4,7 +4,7 @@ use mathlib.Core.List.{List}
 use Prim.Native.Nat.{ℕ, suc, _+_, _-_, _≤_, _<_}
 use native.Mathlib.Omega.{arith}
 use lib.ListN.{length, drop}
-use Rattle.class.specs.Class.{Classes, classesOf}
+use Rattle.class.specs.Class.{Classes, paper}
 use Rattle.parse.proofs.Slices.{rest-is}
 use Rattle.edit.specs.declared.EditReading.the-variants.{Good}
 use Rattle.edits.specs.declared.list.Edits.the-variants.{Count}
@@ -17,10 +17,10 @@ use Rattle.edits.proofs.list.count.Statement.{statement}
 use Rattle.edits.proofs.list.count.Tie as tie
 
 abbrev Inv-loop : tie.InvT-loop
-Inv-loop t n list place₀ count₀ place count = (count ≤ 4096) × (counted count (editsFrom (classesOf t) n list (4096 - count) place) ≡ counted 0 (editsOf (classesOf t) n list))
+Inv-loop n list place₀ count₀ place count = (count ≤ 4096) × (counted count (editsFrom paper n list (4096 - count) place) ≡ counted 0 (editsOf paper n list))
 
 abbrev μ-loop : tie.MeasureT-loop
-μ-loop t n list place₀ count₀ place count = length list - place
+μ-loop n list place₀ count₀ place count = length list - place
 
 -- ---- what is known at each place of a turn
 
@@ -29,7 +29,7 @@ module _ (l : tie.At-loop Inv-loop μ-loop) where
   start = l .before .before
 
   abbrev byte : Classes
-  byte = classesOf (start .args .t .now)
+  byte = paper
 
   abbrev n : ℕ
   n = start .args .n

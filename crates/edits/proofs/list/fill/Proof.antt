@@ -4,7 +4,7 @@ use mathlib.Core.List.{List}
 use Prim.Native.Nat.{ℕ, _+_, _-_, _≤_, _<_}
 use native.Mathlib.Omega.{arith}
 use lib.ListN.{length, drop, length-set}
-use Rattle.class.specs.Class.{Classes, classesOf}
+use Rattle.class.specs.Class.{Classes, paper}
 use Rattle.parse.proofs.Slices.{rest-is}
 use Rattle.edit.specs.declared.EditReading.the-variants.{Good}
 use Rattle.edit.specs.Edit.{editOf}
@@ -15,10 +15,10 @@ use Rattle.edits.proofs.list.fill.Statement.{statement}
 use Rattle.edits.proofs.list.fill.Tie as tie
 
 abbrev Inv-loop : tie.InvT-loop
-Inv-loop t n list index₀ place₀ i₀ index place i = (length index ≡ length index₀) × (i ≤ place) × Filling (classesOf t) n list index₀ index place i
+Inv-loop n list index₀ place₀ i₀ index place i = (length index ≡ length index₀) × (i ≤ place) × Filling paper n list index₀ index place i
 
 abbrev μ-loop : tie.MeasureT-loop
-μ-loop t n list index₀ place₀ i₀ index place i = length list - place
+μ-loop n list index₀ place₀ i₀ index place i = length list - place
 
 -- ---- what is known at each place of a turn
 
@@ -27,7 +27,7 @@ module _ (l : tie.At-loop Inv-loop μ-loop) where
   start = l .before .before .before
 
   abbrev byte : Classes
-  byte = classesOf (start .args .t .now)
+  byte = paper
 
   abbrev n : ℕ
   n = start .args .n

@@ -6,7 +6,7 @@ use Prim.Native.Nat.{ℕ, _≤_}
 use native.Mathlib.Omega.{arith}
 use lib.ListN.{length, take, drop, length-append, length-drop}
 use borrow.Author.Tests.{ltb-false}
-use Rattle.class.specs.Class.{Classes, classesOf}
+use Rattle.class.specs.Class.{Classes, paper}
 use Rattle.parse.specs.Limit.{overLimit}
 use Rattle.edits.specs.declared.list.Edits.the-variants.{Count}
 use Rattle.edits.specs.List.{editsOf, counted, placesOf, inOrder, twinsOf}
@@ -20,7 +20,7 @@ use Rattle.edits.proofs.list.prepare.Tie as tie
 
 module _ (b : tie.Start) where
   abbrev byte : Classes
-  byte = classesOf (b .args .t .now)
+  byte = paper
 
   abbrev n : ℕ
   n = b .args .n
@@ -62,7 +62,7 @@ module _ (f : tie.After-fill) where
   its-start = start (with-count of-number)
 
   abbrev filled : List ℕ
-  filled = f .fill .last .1 .1 .1 .0
+  filled = f .fill .last .1 .1 .0
 
   abbrev j : ℕ
   j = number of-number

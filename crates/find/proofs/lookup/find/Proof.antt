@@ -1,8 +1,7 @@
--- `find::lookup::find` meets its contract: 1 and 17 first, and the table's classes are the paper's.
+-- `find::lookup::find` meets its contract: 1 and 17 first, then the rest.
 use mathlib.Core.Path.{sym, ap, _∙_}
-use Rattle.class.proofs.Classes.{by-paper}
 use Rattle.find.specs.declared.lookup.LookupAnswer.the-variants.{Done}
-use Rattle.find.specs.Lookup.{lookupOf, lookupAnswer}
+use Rattle.find.specs.Lookup.{lookupAnswer}
 use borrow.Author.Needs.{needs}
 use Rattle.find.proofs.lookup.find.Statement.{statement}
 use Rattle.find.proofs.lookup.find.Tie as tie
@@ -13,11 +12,8 @@ admit-requires c κs = search needs
 enum-known-n : tie.Need-enum-known-n
 enum-known-n c = search needs
 
-table-requires : tie.Need-table-requires
-table-requires c κs = search needs
-
-find-using-requires : tie.Need-find-using-requires
-find-using-requires c κs = search needs
+find-with-digits-requires : tie.Need-find-with-digits-requires
+find-with-digits-requires c κs = search needs
 
 enum-told : tie.Need-enum-told
 enum-told c = search needs
@@ -28,11 +24,8 @@ enum-told-2 c = search needs
 returns : tie.Need-returns
 unfolding lookupAnswer
 returns c =
-    let t = c .before .before in
-    let k = t .before in
-    let a = k .before .before .before .before .before .before .args in
-    rw (sym (k .before .before .before .admit .ensures) ∙ k .before .n .given .1)
-    (ap Done (c .find-using .ensures ∙ by-paper (λ byte. lookupOf byte (k .before .n .given .0 .0) (a .body .now) (a .name .now)) (t .table .ensures)))
+    let k = c .before in
+    rw (sym (k .before .before .before .admit .ensures) ∙ k .before .n .given .1) (ap Done (c .find-with-digits .ensures))
 
 returns-2 : tie.Need-returns-2
 unfolding lookupAnswer
@@ -48,8 +41,7 @@ find-spec =
     (tie.spec
     admit-requires
     enum-known-n
-    table-requires
-    find-using-requires
+    find-with-digits-requires
     enum-told
     enum-told-2
     returns

@@ -1,8 +1,7 @@
--- `find::prefix_start::begin` meets its contract: 1 and 17 first, and the table's classes are the paper's.
+-- `find::prefix_start::begin` meets its contract: 1 and 17 first, then the rest.
 use mathlib.Core.Path.{sym, ap, _∙_}
-use Rattle.class.proofs.Classes.{by-paper}
 use Rattle.find.specs.declared.prefix_start.PrefixStartAnswer.the-variants.{Done}
-use Rattle.find.specs.PrefixStart.{prefixStartOf, prefixStartAnswer}
+use Rattle.find.specs.PrefixStart.{prefixStartAnswer}
 use borrow.Author.Needs.{needs}
 use Rattle.find.proofs.prefix_start.begin.Statement.{statement}
 use Rattle.find.proofs.prefix_start.begin.Tie as tie
@@ -13,11 +12,8 @@ admit-requires c κs = search needs
 enum-known-n : tie.Need-enum-known-n
 enum-known-n c = search needs
 
-table-requires : tie.Need-table-requires
-table-requires c κs = search needs
-
-begin-using-requires : tie.Need-begin-using-requires
-begin-using-requires c κs = search needs
+begin-with-digits-requires : tie.Need-begin-with-digits-requires
+begin-with-digits-requires c κs = search needs
 
 enum-told : tie.Need-enum-told
 enum-told c = search needs
@@ -28,11 +24,8 @@ enum-told-2 c = search needs
 returns : tie.Need-returns
 unfolding prefixStartAnswer
 returns c =
-    let t = c .before .before in
-    let k = t .before in
-    let a = k .before .before .before .before .before .before .args in
-    rw (sym (k .before .before .before .admit .ensures) ∙ k .before .n .given .1)
-    (ap Done (c .begin-using .ensures ∙ by-paper (λ byte. prefixStartOf byte (k .before .n .given .0 .0) (a .body .now) (a .prefix .now)) (t .table .ensures)))
+    let k = c .before in
+    rw (sym (k .before .before .before .admit .ensures) ∙ k .before .n .given .1) (ap Done (c .begin-with-digits .ensures))
 
 returns-2 : tie.Need-returns-2
 unfolding prefixStartAnswer
@@ -48,8 +41,7 @@ begin-spec =
     (tie.spec
     admit-requires
     enum-known-n
-    table-requires
-    begin-using-requires
+    begin-with-digits-requires
     enum-told
     enum-told-2
     returns

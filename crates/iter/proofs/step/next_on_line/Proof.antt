@@ -1,8 +1,7 @@
--- `iter::step::next_on_line` meets its contract: 1 and 17 first, and the table's classes are the paper's.
+-- `iter::step::next_on_line` meets its contract: 1 and 17 first, then the rest.
 use mathlib.Core.Path.{sym, ap, _∙_}
-use Rattle.class.proofs.Classes.{by-paper}
 use Rattle.iter.specs.declared.step.StepAnswer.the-variants.{Done}
-use Rattle.iter.specs.Step.{stepOf, stepAnswer}
+use Rattle.iter.specs.Step.{stepAnswer}
 use borrow.Author.Needs.{needs}
 use Rattle.iter.proofs.step.next_on_line.Statement.{statement}
 use Rattle.iter.proofs.step.next_on_line.Tie as tie
@@ -13,11 +12,8 @@ admit-requires c κs = search needs
 enum-known-n : tie.Need-enum-known-n
 enum-known-n c = search needs
 
-table-requires : tie.Need-table-requires
-table-requires c κs = search needs
-
-next-using-requires : tie.Need-next-using-requires
-next-using-requires c κs = search needs
+next-with-digits-requires : tie.Need-next-with-digits-requires
+next-with-digits-requires c κs = search needs
 
 enum-told : tie.Need-enum-told
 enum-told c = search needs
@@ -28,11 +24,8 @@ enum-told-2 c = search needs
 returns : tie.Need-returns
 unfolding stepAnswer
 returns c =
-    let t = c .before .before in
-    let k = t .before in
-    let a = k .before .before .before .before .before .before .args in
-    rw (sym (k .before .before .before .admit .ensures) ∙ k .before .n .given .1)
-    (ap Done (c .next-using .ensures ∙ by-paper (λ byte. stepOf byte (k .before .n .given .0 .0) (a .prefix .now) (a .s .now) (a .place) (a .line)) (t .table .ensures)))
+    let k = c .before in
+    rw (sym (k .before .before .before .admit .ensures) ∙ k .before .n .given .1) (ap Done (c .next-with-digits .ensures))
 
 returns-2 : tie.Need-returns-2
 unfolding stepAnswer
@@ -48,8 +41,7 @@ next-on-line-spec =
     (tie.spec
     admit-requires
     enum-known-n
-    table-requires
-    next-using-requires
+    next-with-digits-requires
     enum-told
     enum-told-2
     returns

@@ -1,11 +1,10 @@
--- `parse::line::line_end` meets its contract: the line from i on ends where the line from the start on ends.
+-- `parse::line::line_end` meets its contract: sixteen bytes without an LF are passed over, the rest goes byte by byte.
 use mathlib.Core.Path.{_≡_, refl, sym, _∙_}
 use Prim.Native.Nat.{_+_, _-_}
-use native.Mathlib.Omega.{arith}
-use borrow.Author.Tests.{eq-eqb, ne-eqb}
 use lib.ListN.{length, drop}
+use Rattle.block.proofs.Members.{none-among}
 use Rattle.parse.specs.Line.{lineLen}
-use Rattle.parse.proofs.Runs.{line-end, line-stop, line-go}
+use Rattle.parse.proofs.Runs.{line-skip}
 use borrow.Author.Needs.{needs}
 use Rattle.parse.proofs.line.line_end.Statement.{statement}
 use Rattle.parse.proofs.line.line_end.Tie as tie
@@ -19,16 +18,11 @@ abbrev μ-loop : tie.MeasureT-loop
 loop-holds : tie.Need-loop-holds Inv-loop μ-loop
 loop-holds c = refl
 
-shared-slice-read-if1 : tie.Need-shared-slice-read-if1 Inv-loop μ-loop
-shared-slice-read-if1 c = search needs
+sub-if1 : tie.Need-sub-if1 Inv-loop μ-loop
+sub-if1 c = search needs
 
-add-result : tie.Need-add-result Inv-loop μ-loop
-add-result c = search needs
-
-returns : tie.Need-returns Inv-loop μ-loop
-returns c =
-    let l = c .before .before .before in
-    omega (arith, line-stop (l .before .args .s .now) (l .loop .i) (search needs) (eq-eqb _ _ (c .if1 .taken)), l .loop .inv)
+among16-requires : tie.Need-among16-requires Inv-loop μ-loop
+among16-requires c κs = search needs
 
 add-i : tie.Need-add-i Inv-loop μ-loop
 add-i c = search needs
@@ -38,13 +32,16 @@ loop-less c = search needs
 
 loop-again : tie.Need-loop-again Inv-loop μ-loop
 loop-again c =
-    let l = c .before .before .before in
-    sym (line-go (l .before .args .s .now) (l .loop .i) (search needs) (ne-eqb _ _ (c .if1 .left))) ∙ l .loop .inv
+    let l = c .before .before .before .before in
+    let s = l .before .before .args .s .now in
+    let none = sym (c .before .among16 .ensures) ∙ c .if2 .left in
+    sym (line-skip s (l .loop .i) 16 (search needs) (λ k h. none-among 10 s (l .loop .i) 16 k none h (search needs))) ∙ l .loop .inv
 
-returns-2 : tie.Need-returns-2 Inv-loop μ-loop
-returns-2 c =
-    let l = c .before in
-    omega (arith, line-end (l .before .args .s .now) (l .loop .i) (c .loop-test .left), l .loop .inv)
+line-end-by-one-requires : tie.Need-line-end-by-one-requires Inv-loop μ-loop
+line-end-by-one-requires c κs = search needs
+
+returns : tie.Need-returns Inv-loop μ-loop
+returns c = c .line-end-by-one .ensures ∙ c .before .before .loop .inv
 
 pub line-end-spec : {M : Type 1} → statement M
 line-end-spec =
@@ -53,10 +50,10 @@ line-end-spec =
     Inv-loop
     μ-loop
     loop-holds
-    shared-slice-read-if1
-    add-result
-    returns
+    sub-if1
+    among16-requires
     add-i
     loop-less
     loop-again
-    returns-2)
+    line-end-by-one-requires
+    returns)

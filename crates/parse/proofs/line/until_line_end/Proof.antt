@@ -1,6 +1,6 @@
 -- `parse::line::until_line_end` meets its contract.
 use mathlib.Core.Path.{sym, _∙_}
-use Rattle.class.specs.Class.{classesOf}
+use Rattle.class.specs.Class.{paper}
 use Rattle.parse.proofs.Lines.{text-ended, text-unended}
 use borrow.Author.Needs.{needs}
 use Rattle.parse.proofs.line.until_line_end.Statement.{statement}
@@ -22,13 +22,13 @@ returns : tie.Need-returns
 returns c =
     let k = c .before .before .before in
     let a = k .before .before .args in
-    sym (text-unended (classesOf (a .t .now)) (a .s .now) (a .at) (k .text-end .result) (k .text-end .ensures) (sym (c .before .before .newline .ensures) ∙ c .enum-told .given .1))
+    sym (text-unended paper (a .s .now) (a .at) (k .text-end .result) (k .text-end .ensures) (sym (c .before .before .newline .ensures) ∙ c .enum-told .given .1))
 
 returns-2 : tie.Need-returns-2
 returns-2 c =
     let k = c .before .before .before .before in
     let a = k .before .before .args in
-    sym (text-ended (classesOf (a .t .now)) (a .s .now) (a .at) (k .text-end .result) (k .text-end .ensures) (c .before .next .given .0 .0) (sym (c .before .before .before .newline .ensures) ∙ c .before .next .given .1))
+    sym (text-ended paper (a .s .now) (a .at) (k .text-end .result) (k .text-end .ensures) (c .before .next .given .0 .0) (sym (c .before .before .before .newline .ensures) ∙ c .before .next .given .1))
 
 pub until-line-end-spec : {M : Type 1} → statement M
 until-line-end-spec =

@@ -43,8 +43,8 @@ returns-3 c =
     let space = sym (k .before .before .before .past-byte .ensures) ∙ k .before .from .given .1 in
     rw (space, sym (e .before .before .before .until-line-end .ensures) ∙ e .before .end .given .1, le-ltb _ _ (c .if1 .taken))
 
-sub-t9 : tie.Need-sub-t9
-sub-t9 c = search needs
+sub-t8 : tie.Need-sub-t8
+sub-t8 c = search needs
 
 returns-4 : tie.Need-returns-4
 unfolding shapeOf
@@ -67,5 +67,5 @@ name-at-record-start-spec =
     enum-told-2
     returns-2
     returns-3
-    sub-t9
+    sub-t8
     returns-4)
