@@ -7,6 +7,7 @@ pub lookups : Lookups
 lookups = record {
   probe-name-at-record-start = λ m k o o′. by-answer k o o′ refl;
   probe-record-start = λ m k o o′. by-answer k o o′ refl;
+  probe-record-start-far = λ m k o o′. by-answer k o o′ refl;
   search-search = λ m k o o′. by-answer k o o′ refl;
   find-find = λ m k o o′. by-answer k o o′ refl;
   find-find-with-digits = λ m k o o′. by-answer k o o′ refl;

@@ -1,6 +1,7 @@
 -- Lookup, prefix listing and the lookup that can be trusted on any bytes: any two outcomes allowed are the same.
 use Rattle.probe.proofs.shape.name_at_record_start
 use Rattle.probe.proofs.start.record_start
+use Rattle.probe.proofs.start.record_start_far
 use Rattle.search.proofs.search as searching
 use Rattle.find.proofs.lookup.find
 use Rattle.find.proofs.lookup.find_with_digits
@@ -13,6 +14,7 @@ use Rattle.determined.specs.Outcomes.{Determined}
 pub record Lookups : Type 2 where
   pub probe-name-at-record-start : Determined name_at_record_start.ended (λ M. name_at_record_start.clauses)
   pub probe-record-start : Determined record_start.ended (λ M. record_start.clauses)
+  pub probe-record-start-far : Determined record_start_far.ended (λ M. record_start_far.clauses)
   pub search-search : Determined searching.ended (λ M. searching.clauses)
   pub find-find : Determined find.ended (λ M. find.clauses)
   pub find-find-with-digits : Determined find_with_digits.ended (λ M. find_with_digits.clauses)

@@ -1,4 +1,5 @@
 -- The record start of a place.
+use mathlib.Core.Path.{_≡_}
 use mathlib.Core.List.{List}
 use Prim.Native.Nat.{ℕ, zero, suc, _-_}
 use lib.Dec.{eqb}
@@ -15,3 +16,7 @@ unfoldable pub recordStart : List ℕ → ℕ → ℕ
 recordStart s place =
     let start = lineStart s place in
     if (eqb (getD s start 0) 94) (lineStart s (start - 1)) (if (eqb start (length s)) 0 start)
+
+-- that r is the record start of every place whose line starts there
+abbrev pub OfLine : List ℕ → ℕ → ℕ → Type 0
+OfLine s start r = (place : ℕ) → start ≡ lineStart s place → r ≡ recordStart s place

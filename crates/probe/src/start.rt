@@ -2,13 +2,26 @@
 ghost use mathlib.Core.Path.{_≡_};
 ghost use Prim.Native.Nat.{_≤_};
 ghost use lib.ListN.{length};
-ghost use Rattle.probe.specs.RecordStart.{lineStart, recordStart};
+ghost use Rattle.probe.specs.RecordStart.{lineStart, recordStart, OfLine};
 
 // The start of the record that a place lies in, by line feeds alone.
 pub fn record_start(s: &[u8], place: usize) -> usize
     ensures { λ r. ⌜ r ≡ recordStart (now (s .entry)) place ⌝ }
 {
-    let start = line_start(s, place);
+    from_line(s, line_start(s, place))
+}
+
+// The same, where the line is expected to begin far away: sixteen bytes a step at once.
+pub fn record_start_far(s: &[u8], place: usize) -> usize
+    ensures { λ r. ⌜ r ≡ recordStart (now (s .entry)) place ⌝ }
+{
+    from_line(s, line_start_far(s, place))
+}
+
+// The start of the record of a line that starts there.
+fn from_line(s: &[u8], start: usize) -> usize
+    ensures { λ r. ⌜ OfLine (now (s .entry)) start r ⌝ }
+{
     if s.len() <= start {
         return 0;
     }
@@ -29,6 +42,15 @@ pub(crate) fn line_start(s: &[u8], place: usize) -> usize
         return line_start_within(s, s.len());
     }
     line_start_within(s, place)
+}
+
+fn line_start_far(s: &[u8], place: usize) -> usize
+    ensures { λ r. ⌜ r ≡ lineStart (now (s .entry)) place ⌝ }
+{
+    if s.len() < place {
+        return by_sixteen(s, s.len());
+    }
+    by_sixteen(s, place)
 }
 
 // Eight bytes a step, eight times at most: most lines are short. Then sixteen a step.

@@ -33,8 +33,8 @@ sub-middle c = search needs
 add-middle : tie.Need-add-middle Inv-loop μ-loop
 add-middle c = search needs
 
-record-start-requires-2 : tie.Need-record-start-requires-2 Inv-loop μ-loop
-record-start-requires-2 c κs = search needs
+start-of-requires : tie.Need-start-of-requires Inv-loop μ-loop
+start-of-requires c κs = search needs
 
 between-requires : tie.Need-between-requires Inv-loop μ-loop
 between-requires c κs = search needs
@@ -77,7 +77,7 @@ module _ (p : tie.After-probe Inv-loop μ-loop) where
   said : p .probe .result ≡ probes turn half
   said =
       let a = turn .before .before .before .args in
-      let start = p .before .before .record-start2 in
+      let start = p .before .before .start-of in
       let here = p .before .between .ensures ∙ rest-is (a .s .now) (start .result) ∙ ap (λ k. drop k (a .s .now)) (start .ensures) in
       p .probe .ensures ∙ ap (λ x. probedOf paper (a .n) x (a .wanted .now)) here
 
@@ -120,7 +120,7 @@ unfolding searchOf
 returns-2 c =
     let p = c .before .before .before in
     let l = turn p in
-    ap Hit (p .before .before .record-start2 .ensures)
+    ap Hit (p .before .before .start-of .ensures)
     ∙ sym (ap (starts l) (found-it (order l) (failure l) (l .loop .inv) (p .before .before .before .if1 .left) (order-is p ∙ c .enum-told2 .given .1)))
 
 pub search-spec : {M : Type 1} → statement M
@@ -133,7 +133,7 @@ search-spec =
     record-start-requires
     sub-middle
     add-middle
-    record-start-requires-2
+    start-of-requires
     between-requires
     probe-requires
     enum-told
