@@ -67,6 +67,9 @@ class Make:
             n = self.stem()
         if r.random() < 0.01:
             n += b"x" * (r.choice([15, 16, 17, 31, 32, 33, 127, 128, 129, 255, 256, 300]) - len(n))
+        elif r.random() < 0.3:
+            # Names are looked at in blocks of eight and sixteen bytes.
+            n += b"/" + bytes(r.choice(b"abckxyz059-_") for _ in range(r.choice([6, 7, 8, 9, 10, 11, 14, 15, 16, 17, 22, 23, 24, 25, 26, 27, 30, 38, 39])))
         elif r.random() < 0.0005:
             n += b"/" + b"y" * (r.choice([4094, 4095, 4096, 4097]) - len(n) - 1)
         if r.random() >= harm:
@@ -208,6 +211,10 @@ def headers(m):
 def short_names():
     yield from (("n", 1, b) for b in words([bytes([c]) for c in b"a/.@{A"] + [b".lock"], 6))
     yield from (("n", 1, form % c) for c in [bytes([i]) for i in range(256)] for form in (b"a/%b", b"a/%ba", b"a/a%b", b"%ba/a", b"a%b/a", b"a/a%b%%", b"%b"))
+    # Names of one, two and three blocks: any byte, and each word that a rule is about, at any place.
+    for long in (b"refs/sent/ward4/o", b"refs/sent/ward4/o118/e3/x-12_a.b", b"refs/sent/ward4/o118/e3/x-12_a.bc", b"a-name-without-refs/sent/ward4/o118/e3/x-12_a.bcd"):
+        yield from (("n", 1, long[:at] + bytes([i]) + long[at + 1:]) for at in range(len(long)) for i in range(256))
+        yield from (("n", 1, long[:at] + w + long[at:]) for at in range(len(long) + 1) for w in (b"//", b"..", b"/.", b"./", b"@{", b".lock", b".lock/", b"k/", b"/", b"."))
 
 
 def names(m):
@@ -265,6 +272,13 @@ def short_files(op):
             for j in (39, 40, 41, 63, 64, 65):
                 for e in (b"\n", b"\r\n", b"\r", b""):
                     yield op, kind, b"a" * i + b" a/b" + e + b"^" + b"B" * j + e
+    # Records of several blocks of eight and sixteen bytes, the second with one other byte at any place.
+    for kind in (1, 2):
+        n = DIGITS[kind]
+        first, second = b"1a" * (n // 2) + b" refs/sent/ward4/o118/e2\n", b"0F" * (n // 2) + b" refs/sent/ward4/o118/e3-x\n^" + b"9c" * (n // 2) + b"\n"
+        for at in range(len(second)):
+            for byte in b"\0\t\n\x0b\r\x0e\x1f !-./09:@AFG[^`afgkz{~\x7f\x80\xff":
+                yield op, kind, first + second[:at] + bytes([byte]) + second[at + 1:]
     yield from ((op, kind, b) for kind, b, _ in short_bad_records())
 
 
