@@ -76,8 +76,18 @@ def spread(a, b, ka, kb):
     return f"{min(r):.1f}-{max(r):.1f}"
 
 
+def cpu_by_lscpu():
+    """Where /proc/cpuinfo has numbers alone, as on Arm."""
+    try:
+        said = subprocess.run(["lscpu"], capture_output=True, text=True).stdout.splitlines()
+    except OSError:
+        return None
+    words = {k: v.strip() for k, v in (line.split(":", 1) for line in said if ":" in line)}
+    return " ".join(words[k] for k in ("Vendor ID", "Model name") if k in words) or None
+
+
 def machine():
-    name = next((line.split(":")[1].strip() for line in open("/proc/cpuinfo") if line.startswith("model name")), platform.processor())
+    name = next((line.split(":")[1].strip() for line in open("/proc/cpuinfo") if line.startswith("model name")), None) or cpu_by_lscpu() or platform.machine()
     return f"{name}, {os.cpu_count()} processors shared with other work (load {os.getloadavg()[0]:.1f} at the end)"
 
 
