@@ -102,6 +102,26 @@ def in_each_place(names):
         yield "l", 1, b"ref: " + name + b"\n"
 
 
+def blocks():
+    """Bytes are looked at eight and sixteen at a time: a record with one other byte at each place of its id, its name and its peeled id; names that are as long as one block and two, or a
+    byte more or less, with each word of the rules at their ends and where blocks meet; and the first two in order, or alike but for one byte."""
+    name = b"refs/sent/ward4/o118/e3-x"
+    for kind in (1, 2):
+        n = model.DIGITS[kind]
+        record = b"0F" * (n // 2) + b" " + name + LF + b"^" + b"9c" * (n // 2) + LF
+        for at in range(len(record)):
+            byte = b"\r\x80g/\n.\x0e\0"[at % 8:at % 8 + 1]
+            yield "i", kind, record[:at] + byte + record[at + 1:] + good_record(kind, b"refs/t")
+        yield from (("s", kind, record + record, at) for at in range(2 * len(record) + 1))
+        for at in range(len(name)):
+            yield "c", kind, good_record(kind, name) + good_record(kind, name[:at] + b"z" + name[at + 1:])
+            yield "f", kind, good_record(kind, name) + good_record(kind, b"refs/t"), name[:at] + b"z" + name[at + 1:]
+    for long in (15, 16, 17, 18, 31, 32, 33, 34, 48, 49, 50):
+        for at in sorted({0, 1, 7, 8, 15, 16, 17, 31, 32, 33, long - 2, long - 1, long} & set(range(long + 1))):
+            for word in (b"//", b"..", b"/.", b"./", b"@{", b".lock", b".lock/", b"k/", b"\xc3\xa9", b"~"):
+                yield "n", 1, (b"refs/" + b"abcde-f0" * 7)[:at] + word + (b"refs/" + b"abcde-f0" * 7)[at:long]
+
+
 def good_record(kind, name):
     return b"3" * model.DIGITS[kind] + b" " + name + b"\n"
 
@@ -207,6 +227,7 @@ def main():
     group("bad records: each fault and each two, gix-ref 0.67.1 (that it is bad) and a model of documents 01 and 02 (which part)",
           [asked_of(q, a) for q, a in theirs(list(bad_records()))], "the Rust")
     group("charted in a damaged file, gix-ref 0.67.1 and a model of documents 01 and 02", [asked_of(q, a) for q, a in theirs(list(charted()))], "the Rust")
+    group("around blocks of eight and sixteen bytes, gix-ref 0.67.1 and a model of documents 01 and 02", [asked_of(q, a) for q, a in theirs(list(blocks()))], "the Rust")
     group("the first fault of a damaged file, Git's refs verify", first_faults_by_git(random.Random("vectors for Git's verdict"), 120), "Git")
     rnd = random.Random("vectors lists")
     of_model = lambda questions: [(q, model.merge(*q[1:])) for q in questions]
