@@ -150,7 +150,7 @@ fn main() {
             let step = n / count;
             let one = |i: usize| {
                 let mut name = names[i * step].clone();
-                let new = Target::Object(gix_hash::ObjectId::try_from(&[(i % 255 + 1) as u8; 20][..]).expect("20 bytes"));
+                let new = Target::Object(gix_hash::ObjectId::try_from(&[i as u8; 20][..]).expect("20 bytes"));
                 let update = Change::Update { log: Default::default(), expected: PreviousValue::Any, new };
                 let change = match i % 4 {
                     0 | 1 => update,

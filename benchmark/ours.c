@@ -197,7 +197,7 @@ static void make_edits(size_t n) {
         memcpy(e + at, name.at, name.len);
         at += name.len;
         if (i % 4 != 3) {
-            memset(e + at, (int)(i % 255 + 1), 20);
+            memset(e + at, (int)(i & 255), 20);
             at += 20;
         }
         made[i] = (struct bytes){e, at};

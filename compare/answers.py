@@ -3,10 +3,9 @@ domain that both sides share. A question is (operation, kind, lent bytes and num
 
 The Rust has one error for all bad records. So it judges where a record is bad and what the error covers, the model has to say the same, and which part is
 bad (41 to 45) is the model's word. The Rust numbers items, and cuts its texts: line and text are the model's word too, and what the Rust has to say of such an
-error is worked out from them (`as_the_rust`) and held to what it says. It writes ids of zeros: that such an edit is refused (21), unless a name before it or its own is bad, which the
-Rust says, is the model's word."""
+error is worked out from them (`as_the_rust`) and held to what it says."""
 import itertools, re
-from model import BAD, DIGITS, LF, answered, first_fault, first_zero, item, line_of, record, spelled, spelled_prefix, spelled_step, spelled_walk
+from model import BAD, DIGITS, LF, answered, first_fault, item, line_of, record, spelled, spelled_prefix, spelled_step, spelled_walk
 
 
 def hexed(b):
@@ -209,11 +208,8 @@ def expected(q, answers):
         place = behind_header(b, at)
         return spelled_prefix(b, place, items_of(b, kind, place, first_number(place, at), a["items"]))
     if op == "m":
-        places, zero = edit_places(rest[1]), first_zero([e[2:] for e in rest[1]])
-        if a["r"] == "name" and (zero is None or a["edit"] <= zero):
-            return f"8 {places[a['edit']]} x"
-        if zero is not None:
-            return f"21 {places[zero]} x"
+        if a["r"] == "name":
+            return f"8 {edit_places(rest[1])[a['edit']]} x"
         ix = index_text(rest[1])
         if a["r"] == "open_header":
             return check(b, kind, answers[1]) + ix

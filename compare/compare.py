@@ -174,23 +174,10 @@ def by_git(count, seed):
     return t.report("name, against Git")
 
 
-def zeros_by_git():
-    """Updates to zeros, and to zeros with one other byte at each place, against Git; of those that Git calls not zero the model has the new file."""
-    t = Tally()
-    for kind, n in (1, 20), (2, 32):
-        ids = [bytes(n)] + [bytes(at) + byte + bytes(n - 1 - at) for at in range(n) for byte in (b"\x01", b"\x10", b"\x80")]
-        of_git = list(git_judge.are_zero(kind, ids))
-        batch = [("m", kind, b"", [("u", b"refs/s/a", id)], 1, 200) for id, _ in of_git]
-        mine = answers(start(os.environ["OURS"], [ours_line(q) for q in batch]), len(batch))
-        for q, (_, zero), m in zip(batch, of_git, mine):
-            t.add(q, "21 0 x" if zero else model.merge(*q[1:3], edit_bytes(q[3]), *q[4:]), m)
-    return t.report("updates to zeros, against Git")
-
-
 def main():
     count = int(sys.argv[1]) if len(sys.argv) > 1 else 100000
     seed = int(sys.argv[2]) if len(sys.argv) > 2 else 1
-    good = [compare(what, short, make, count, seed) for what, short, make in OPERATIONS] + [by_git(count, seed), zeros_by_git(), added(count, seed)]
+    good = [compare(what, short, make, count, seed) for what, short, make in OPERATIONS] + [by_git(count, seed), added(count, seed)]
     if not all(good):
         sys.exit("there are differences")
     print("no difference")

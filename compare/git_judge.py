@@ -1,4 +1,4 @@
-"""Names judged by Git itself, many at a time: as `git check-ref-format NAME` judges each, which takes one name a process; and which ids are zero to it."""
+"""Names judged by Git itself, many at a time: as `git check-ref-format NAME` judges each, which takes one name a process."""
 import os, subprocess, tempfile
 
 ENV = dict(os.environ, GIT_CONFIG_NOSYSTEM="1", GIT_CONFIG_GLOBAL=os.devnull)
@@ -31,15 +31,3 @@ def judged(names):
     names = {name for name in names if b"\0" not in name}
     stops = {name for name in names if b"\n" in name or any(part in (b"", b".", b"..") for part in name.split(b"/"))}
     return together(names - stops) | {name: alone(name) for name in stops}
-
-
-def are_zero(kind, ids):
-    """Whether Git calls each of the ids, in raw bytes, zero: with such an id it creates no reference. Any other names no object of an empty repository, and that is what it says."""
-    with tempfile.TemporaryDirectory() as repository:
-        subprocess.run(["git", "init", "-q", "--bare", f"--object-format=sha{ {1: 1, 2: 256}[kind] }", repository], check=True, env=ENV)
-        for id in ids:
-            asked = subprocess.run(["git", "--git-dir", repository, "update-ref", "--stdin"], input=f"create refs/s/a {id.hex()}\n".encode(), env=ENV, capture_output=True)
-            zero, other = b": zero <" in asked.stderr, b"nonexistent object" in asked.stderr
-            if asked.returncode != 128 or zero == other:
-                raise SystemExit(f"git update-ref said {asked.stderr!r} of {id.hex()}")
-            yield id, zero

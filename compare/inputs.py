@@ -190,13 +190,8 @@ class Make:
         return b[end:] + b[at:end] + b[:at]
 
     def raw(self, kind):
-        """An id in raw bytes; now and then it has only zeros, or zeros and one other byte, or zeros before others."""
-        n, k = DIGITS[kind] // 2, self.r.random()
-        if k < 0.06:
-            zeros, at = bytes(n), self.r.randrange(n)
-            other = bytes([self.r.randrange(1, 256)])
-            return self.one_of(zeros, zeros, zeros[:at] + other + zeros[at + 1:], zeros[:at] + self.r.randbytes(n - at))
-        return bytes([self.r.randrange(256)]) * n if k < 0.5 else self.r.randbytes(n)
+        n = DIGITS[kind] // 2
+        return bytes([self.r.randrange(256)]) * n if self.r.random() < 0.5 else self.r.randbytes(n)
 
     def edit(self, kind, name):
         k = self.r.randrange(3)
@@ -416,22 +411,6 @@ def short_merges():
                     for order in itertools.permutations(edits):
                         yield "m", kind, old, list(order), 3, 500
     yield from short_flawed_merges()
-    yield from short_zero_merges()
-
-
-def short_zero_merges():
-    """An update whose ids have only zeros, or only zeros but for one byte; alone, and in every order with a delete and an update of which one's name may be bad; into an old record of zeros
-    and into no old file."""
-    for kind in (1, 2):
-        n = DIGITS[kind] // 2
-        ids = [bytes(n), b"\x11" * n] + [bytes(at) + b"\x80" + bytes(n - 1 - at) for at in (0, 1, 19, n - 1)]
-        old = SORTED + b"0" * n * 2 + b" refs/b\n^" + b"0" * n * 2 + b"\n"
-        for own in [(i,) for i in ids] + list(itertools.product(ids, ids)):
-            for name, other, last in (b"refs/a", b"refs/b", b"refs/c"), (b"refs/b", b"refs/a", b"refs/..c"), (b"refs/.a", b"refs/b", b"refs/c"), (b"refs/a", b"refs/b.lock", b"refs/c"):
-                edits = [("u", name) + own, ("d", other), ("u", last, bytes(n) if name == b"refs/b" else b"\x33" * n)]
-                for b in b"", old:
-                    yield "m", kind, b, edits[:1], 1, 500
-                    yield from (("m", kind, b, list(order), 3, 900) for order in itertools.permutations(edits))
 
 
 def short_flawed_merges():

@@ -1,7 +1,6 @@
 """Documents 01 and 02 as a program, for what the Rust can't be asked: which part of a record is bad (document 02's request Six; the Rust has one error for
 all five), on which line and what the whole line is (request One; the Rust counts items and cuts a byte), and what the port adds: the check, `ask`, edit lists
-as bytes, 7 to 12, 21 (request Thirteen; the Rust writes such an id), the index. Written from the documents' sentences, the name rules with request Four, and `ask` from what was settled with
-request Six.
+as bytes, 7 to 12, the index. Written from the documents' sentences, the name rules with request Four, and `ask` from what was settled with request Six.
 Nothing is taken over from the library. Answers have the one-line form."""
 LF = b"\n"
 DIGITS = {1: 40, 2: 64}
@@ -186,11 +185,6 @@ def answered(b, items, name):
 
 # ---- Edits and merge
 
-def first_zero(edits):
-    """Which of the edits, as lists of an edit's ids, is the first that has an id of zero bytes only; or None. Document 02, Thirteen."""
-    return next((i for i, ids in enumerate(edits) if any(not any(id) for id in ids)), None)
-
-
 def edits_of(e, kind):
     """(edits, None) or (.., (number, place)); an edit is (place, name, id or None, peeled id or None)."""
     n = DIGITS[kind] // 2
@@ -217,10 +211,7 @@ def edits_of(e, kind):
         if not valid(name):
             return out, (8, start)
         at += size
-        raw = [e[at + i * n:at + i * n + n] for i in range(ids)]
-        if first_zero([raw]) is not None:
-            return out, (21, start)
-        out.append((start, name, *raw, *[None] * (2 - ids)))
+        out.append((start, name) + tuple(e[at + i * n:at + i * n + n] if i < ids else None for i in (0, 1)))
         at += ids * n
     return out, None
 

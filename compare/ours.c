@@ -183,7 +183,7 @@ static void merge(uint32_t kind) {
         index[i] = UINT32_MAX;
     memset(out, 0xa5, out_len);
     struct packed_refs_merge_reply r = packed_refs_merge(kind, old.at, old.len, edits.at, edits.len, index, index_len, out, out_len);
-    int beside_place = bad(r.number) || (r.number >= 6 && r.number <= 9) || r.number == 11 || r.number == 21;
+    int beside_place = bad(r.number) || (r.number >= 6 && r.number <= 9) || r.number == 11;
     if (r.number == 0) {
         printf("0 %zu ", r.length);
         if (r.length > out_len)

@@ -15,7 +15,7 @@
  *    3  the looked-up name breaks the name rules         15  loose content unreadable
  *    4  lookup: not found, and a probed line unreadable  16  symbolic target breaks the name rules
  *    5  not found                                        17  lent bytes over 1,073,741,824
- *    6  a name not greater than the record's before it   21  an update's id or peeled id has only zero bytes
+ *    6  a name not greater than the record's before it
  *    7  edit list malformed                              41  a record's id can't be read
  *    8  edit name empty, too long or breaking the rules  42  no space behind a record's id
  *    9  a 4,097th edit begins                            43  a record's line not ended properly
@@ -175,8 +175,8 @@ struct packed_refs_ask_reply packed_refs_ask(
  * edits' places in name order. The output is written beside 0 only, and not behind the new file's length. Lengths are counts of entries: an index of
  * 4,096 entries always suffices, and so does an output of 46 bytes, the old file's length and twice the list's. */
 struct packed_refs_merge_reply {
-    uint32_t number;    /* 0, 1, 2, 6 to 14, 17, 21, 41 to 45 */
-    size_t place;       /* beside 41 to 45 and 6: where the item starts in old; beside 7, 8, 9, 11 and 21: where the edit starts in edits */
+    uint32_t number;    /* 0, 1, 2, 6 to 14, 17, 41 to 45 */
+    size_t place;       /* beside 41 to 45 and 6: where the item starts in old; beside 7, 8, 9 and 11: where the edit starts in edits */
     uint64_t line;      /* beside 41 to 45: its line's number in old */
     size_t length;      /* beside 0: the new file's length */
     size_t text_len;    /* beside 41 to 45: the length of its text, which starts at place in old; beside 2: of old's first line, which starts at 0 */

@@ -25,7 +25,6 @@ static void same(int line, const char *what, uint64_t got, uint64_t want)
 #define THREES "3333333333333333333333333333333333333333"
 #define FOURS "4444444444444444444444444444444444444444"
 #define NO_ID "xxxxxxxxxxxxxxxxxxxxxxxxxxxxxxxxxxxxxxxx"
-#define ZEROS "0000000000000000000000000000000000000000"
 #define LONG_ONES ONES "111111111111111111111111"
 #define LONG_TWOS TWOS "222222222222222222222222"
 #define HEADER "# pack-refs with: peeled fully-peeled sorted \n"
@@ -333,10 +332,6 @@ static void merge(int line, struct packed_refs_merge_reply r, uint32_t number, s
 }
 
 #define RAW_FOURS "DDDDDDDDDDDDDDDDDDDD" /* twenty bytes 0x44 */
-#define TEN_ZEROS "\0\0\0\0\0\0\0\0\0\0"
-#define RAW_ZEROS TEN_ZEROS TEN_ZEROS
-#define LONG_ZEROS TEN_ZEROS TEN_ZEROS TEN_ZEROS "\0\0"
-#define RAW_NEARLY_ZEROS TEN_ZEROS "\0\0\0\0\0\0\0\0\0\1"
 #define DELETE_C "\0\10refs/s/c"
 #define DELETE_A "\0\10refs/s/a"
 #define UPDATE_B "\1\10refs/s/b" RAW_FOURS
@@ -356,13 +351,6 @@ static void test_merge(void)
     merge(__LINE__, packed_refs_merge(1, BYTES(OLD), BYTES(DELETE_C "\3"), index, 4, out, 200), 7, 10, 0, 0, 0);
     merge(__LINE__, packed_refs_merge(1, BYTES(OLD), BYTES(DELETE_C "\0\4refs"), index, 4, out, 200), 8, 10, 0, 0, 0);
     merge(__LINE__, packed_refs_merge(1, BYTES(OLD), BYTES(DELETE_C "\0\15refs/s.lock/a"), index, 4, out, 200), 8, 10, 0, 0, 0);
-    merge(__LINE__, packed_refs_merge(1, BYTES(OLD), BYTES(DELETE_C "\1\10refs/s/b" RAW_ZEROS), index, 4, out, 200), 21, 10, 0, 0, 0);
-    merge(__LINE__, packed_refs_merge(1, BYTES(OLD), BYTES(DELETE_C "\2\10refs/s/b" RAW_FOURS RAW_ZEROS), index, 4, out, 200), 21, 10, 0, 0, 0);
-    merge(__LINE__, packed_refs_merge(1, BYTES(OLD), BYTES("\2\10refs/s/b" RAW_ZEROS RAW_FOURS DELETE_C "\3"), index, 4, out, 200), 21, 0, 0, 0, 0);
-    merge(__LINE__, packed_refs_merge(2, BYTES(""), BYTES("\1\10refs/s/b" LONG_ZEROS), index, 4, out, 200), 21, 0, 0, 0, 0);
-    /* Where the name is bad too, or a byte is missing, that is said. */
-    merge(__LINE__, packed_refs_merge(1, BYTES(OLD), BYTES("\1\10refs/s/." RAW_ZEROS), index, 4, out, 200), 8, 0, 0, 0, 0);
-    merge(__LINE__, packed_refs_merge(1, BYTES(OLD), (const uint8_t *)("\1\10refs/s/b" RAW_ZEROS), 29, index, 4, out, 200), 7, 0, 0, 0, 0);
     merge(__LINE__, packed_refs_merge(1, BYTES(OLD), BYTES(DELETE_C UPDATE_B), index, 1, out, 200), 10, 0, 0, 0, 0);
     for (i = 0; i < 4; i++)
         SAME(index[i], 7);
@@ -383,11 +371,6 @@ static void test_merge(void)
     merge(__LINE__, packed_refs_merge(1, BYTES(OLD), BYTES(DELETE_C UPDATE_B), index, 4, out, 145), 12, 0, 0, 0, 0);
     for (i = 0; i < sizeof out; i++)
         SAME(out[i], 'z');
-
-    /* An old record of zeros is kept as it is; an id that has one other byte is taken. */
-    merge(__LINE__, packed_refs_merge(1, BYTES(ZEROS " refs/s/a\n"), BYTES("\1\10refs/s/b" RAW_NEARLY_ZEROS), index, 4, out, 200), 0, 0, 0, 146, 0);
-    SAME(memcmp(out, HEADER ZEROS " refs/s/a\n" "0000000000000000000000000000000000000001 refs/s/b\n", 146), 0);
-    memset(out, 'z', sizeof out);
 
     merge(__LINE__, packed_refs_merge(1, BYTES(OLD), BYTES(DELETE_C UPDATE_B), index, 4, out, 200), 0, 0, 0, 146, 0);
     SAME(index[0], 10);

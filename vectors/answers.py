@@ -175,27 +175,6 @@ def walks():
             yield from (("w", kind, b, at, line) for line in (0, 1, model.LAST_LINE - 2, model.LAST_LINE - 1, model.LAST_LINE))
 
 
-def zero_ids():
-    """Records and loose content of zeros, read and kept by a merge; and cut edits of such ids, whose lists are bytes."""
-    for kind in (1, 2):
-        n = model.DIGITS[kind]
-        zeros, ones = bytes(n // 2), b"\x11" * (n // 2)
-        record, peeled = b"0" * n + b" refs/a\n", b"^" + b"0" * n + LF
-        for b in record, record + peeled, record + peeled + good_record(kind, b"refs/b"):
-            yield from (("i", kind, b), ("c", kind, inputs.SORTED + b), ("f", kind, b, b"refs/a"), ("a", kind, b, b"refs/a"))
-            yield from (("m", kind, b, edits, 2, 500) for edits in ([("u", b"refs/b", ones)], [("u", b"refs/a", ones)], [("d", b"refs/a")], [("u", b"refs/b", zeros)], [("u", b"refs/a", ones, zeros)]))
-        yield "l", kind, b"0" * n + LF
-
-
-def cut_zero_ids():
-    """Edits of zero ids, as bytes, cut at every place behind the name: the whole one alone is 21."""
-    for kind in (1, 2):
-        n = model.DIGITS[kind] // 2
-        for ids in (1, 2):
-            whole = bytes([ids, 6]) + b"refs/a" + bytes(ids * n)
-            yield from (("m", kind, b"", whole[:end], 2, 500) for end in range(8, len(whole) + 1))
-
-
 def first_faults_by_git(rnd, count):
     """The check of files whose first fault Git names with the same number and line; the line's place and length are counted. Of the rows of
     compare/git_verify.py one may turn them: of a bad `^` line Git names that line, and the record begins a line before."""
@@ -253,15 +232,11 @@ def main():
     rnd = random.Random("vectors lists")
     of_model = lambda questions: [(q, model.merge(*q[1:])) for q in questions]
     asked = chosen(rnd, list(itertools.islice(inputs.lists(inputs.Make(rnd)), 6000)), 300, of_model)
-    group("what the port adds to the merge (edit lists as bytes, 7 to 12, 21, the index), by a model of documents 01 and 02", asked, "the model")
+    group("what the port adds to the merge (edit lists as bytes, 7 to 12, the index), by a model of documents 01 and 02", asked, "the model")
     for one in STEPS:
         sampled(*one)
     group("a bad line behind peeled ones, gix-ref 0.67.1 and a model of documents 01 and 02", [asked_of(q, a) for q, a in theirs(list(behind_peeled()))], "the Rust")
     group("walks by the least lines and the greatest, gix-ref 0.67.1 and a model of documents 01 and 02", [asked_of(q, a) for q, a in theirs(list(walks()))], "the Rust")
-    group("zero ids, read and kept, gix-ref 0.67.1, and refused in an edit, a model of documents 01 and 02", [asked_of(q, a) for q, a in theirs(list(zero_ids()))], "the Rust")
-    rnd = random.Random("vectors zero ids")
-    group("zero ids among other edits, gix-ref 0.67.1 (names and new files) and a model of documents 01 and 02 (21)", chosen(rnd, list(inputs.short_zero_merges()), 90, theirs), "the Rust")
-    group("zero ids that are cut short, by a model of documents 01 and 02", [asked_of(q, a) for q, a in of_model(list(cut_zero_ids()))], "the model")
     for name, texts in ("data/questions", questions), ("stdout", answers):
         with open(os.path.join(sys.argv[1], name), "wb") as f:
             f.writelines(texts)

@@ -26,7 +26,6 @@ const HEADER_LEN: usize = 46;
 /// // a name or an id that no list may hold is refused at once, and the list stays as it was
 /// assert_eq!(edits.delete(b"refs//c").unwrap_err().number(), 8);
 /// assert_eq!(edits.update(b"refs/s/d", b"44").unwrap_err().number(), 7);
-/// assert_eq!(edits.update(b"refs/s/d", [b'0'; 40]).unwrap_err().number(), 21);
 /// assert_eq!(edits.bytes().len(), 40);
 /// ```
 ///
@@ -61,8 +60,7 @@ impl Edits {
         self.push(0, name.as_ref(), &[])
     }
 
-    /// A name is to have an id, given in hex digits, and no peeled id. The record may be there or not. An id of zeros only, which in a reflog means that
-    /// there is none, is refused (number 21), here and in a peeled id.
+    /// A name is to have an id, given in hex digits, and no peeled id. The record may be there or not.
     pub fn update(&mut self, name: impl AsRef<[u8]>, id: impl AsRef<[u8]>) -> Result<&mut Edits, Error> {
         self.push(1, name.as_ref(), &[id.as_ref()])
     }
@@ -98,10 +96,6 @@ impl Edits {
                 return Err(Error::at(7, begin));
             }
         }
-        if ids.iter().any(|id| is_zero(id)) {
-            self.list.truncate(begin);
-            return Err(Error::at(21, begin));
-        }
         Ok(self)
     }
 }
@@ -127,18 +121,6 @@ fn put_raw(list: &mut Vec<u8>, id: &[u8], kind: IdKind) -> Option<()> {
         list.push((high * 16 + low) as u8);
     }
     Some(())
-}
-
-/// Whether an id, given in hex digits, has only zeros: in a reflog it means that there is none, and no update may have it. A record of an old file may.
-///
-/// ```
-/// assert!(packed_refs::is_zero([b'0'; 40]));
-/// assert!(!packed_refs::is_zero("0000000000000000000000000000000000000001"));
-/// ```
-#[must_use]
-pub fn is_zero(id: impl AsRef<[u8]>) -> bool {
-    let id = id.as_ref();
-    !id.is_empty() && id.iter().all(|digit| *digit == b'0')
 }
 
 /// What a merge comes to.
@@ -167,7 +149,7 @@ impl fmt::Debug for Merged {
 /// Merges edits into an old file, with or without header; empty bytes stand for no file at all. The new file has a header, and its records in
 /// name order, old ids as they were and new ones in lower-case digits.
 ///
-/// An old file that does not pass the check is refused (2, 6, 41 to 45), and so is a list with a fault (7, 8, 9, 11, 21); then there is no new file. 12 says
+/// An old file that does not pass the check is refused (2, 6, 41 to 45), and so is a list with a fault (7, 8, 9, 11); then there is no new file. 12 says
 /// that there is not enough memory for one.
 ///
 /// ```

@@ -65,7 +65,7 @@ pub mod sys;
 #[forbid(unsafe_code)]
 mod table;
 
-pub use edits::{is_zero, merge, Edits, Merged};
+pub use edits::{merge, Edits, Merged};
 pub use error::Error;
 pub use escape::Escaped;
 pub use file::{CheckedFile, OpenError, OpenTrouble, Opener, TableFile, QUIET};

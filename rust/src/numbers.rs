@@ -197,10 +197,6 @@ numbers! {
             "Do not send.",
             "See whether the right file was named. A table that has grown so large is not to be split: a name in one part is absent from \
              the other. Call whoever keeps it.";
-        21 ZeroId Edit: "an update's id or peeled id has only zeros",
-            "Hold back what the list names: nothing was written.",
-            "The job that made the list gave that update the id that in a reflog means 'none', and so no message. Mend the job, give the update \
-             the id that belongs there, from the chart, and merge the whole list. An update that is left out or made a delete has its message sent again.";
         41 BadId Line: "a record's id can't be read",
             "Do not send.",
             concat!(

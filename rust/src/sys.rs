@@ -145,9 +145,9 @@ pub struct AskReply {
 #[derive(Clone, Copy, Debug, PartialEq, Eq)]
 #[must_use = "its first field says whether the rest is an answer"]
 pub struct MergeReply {
-    /// 0, or any of 1, 2, 6 to 14, 17, 21, 41 to 45.
+    /// 0, or any of 1, 2, 6 to 14, 17, 41 to 45.
     pub number: u32,
-    /// Where the item of 6 or of 41 to 45 starts in the old file, or the edit of 7, 8, 9, 11 or 21 in the list.
+    /// Where the item of 6 or of 41 to 45 starts in the old file, or the edit of 7, 8, 9 or 11 in the list.
     pub place: usize,
     /// The line of 41 to 45 in the old file.
     pub line: u64,

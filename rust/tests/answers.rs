@@ -134,11 +134,10 @@ fn errors_say_what_to_do() {
         merge(b"", &Edits::from_bytes(KIND, [9])).unwrap_err(),
         merge(b"", &Edits::from_bytes(KIND, b"\x00\x01x".to_vec())).unwrap_err(),
         merge(b"", &Edits::from_bytes(KIND, b"\x00\x03a/b\x00\x03a/b".to_vec())).unwrap_err(),
-        merge(b"", &Edits::from_bytes(KIND, [&b"\x01\x03a/b"[..], &[0; 20]].concat())).unwrap_err(),
         loose(KIND, b"").unwrap_err(),
         loose(KIND, b"ref: x").unwrap_err(),
     ];
-    for (error, number) in errors.iter().zip([2, 3, 41, 7, 8, 11, 21, 15, 16]) {
+    for (error, number) in errors.iter().zip([2, 3, 41, 7, 8, 11, 15, 16]) {
         assert_eq!(error.number(), number);
         let words = error.to_string();
         assert!(words.starts_with(&format!("number {number}: ")), "{words}");
@@ -192,40 +191,6 @@ fn sha256() {
     assert_eq!((record.id, record.peeled), (a.as_bytes(), Some(b.as_bytes())));
     assert_eq!(Table::check(KIND, &new).unwrap_err().number(), 42);
     assert_eq!(edits.update(b"refs/s/b", id('1').as_bytes()).unwrap_err().number(), 7);
-}
-
-/// An update to zeros is refused where it is built and where it is merged, with either kind of ids, and the list stays as it was; a record of zeros is read
-/// and kept.
-#[test]
-fn ids_of_zeros() {
-    for kind in [IdKind::Sha1, IdKind::Sha256] {
-        let digits = kind.digits();
-        let (zeros, ones) = ("0".repeat(digits), "1".repeat(digits));
-        let nearly = [format!("{}1", "0".repeat(digits - 1)), format!("a{}", "0".repeat(digits - 1))];
-        let mut edits = Edits::new(kind);
-        edits.delete("refs/s/d").unwrap();
-        let begin = edits.bytes().len();
-        for error in [
-            edits.update("refs/s/b", &zeros).unwrap_err(),
-            edits.update_peeled("refs/s/b", &zeros, &ones).unwrap_err(),
-            edits.update_peeled("refs/s/b", &ones, &zeros).unwrap_err(),
-            edits.update_peeled("refs/s/b", &zeros, &zeros).unwrap_err(),
-        ] {
-            assert_eq!((error.number(), error.reason(), error.place_in_edits()), (21, Reason::ZeroId, Some(begin)));
-        }
-        assert_eq!(edits.bytes().len(), begin);
-        // the name comes first, and so does an id that is none
-        assert_eq!(edits.update("refs//b", &zeros).unwrap_err().number(), 8);
-        assert_eq!(edits.update_peeled("refs/s/b", &zeros, "00").unwrap_err().number(), 7);
-        edits.update_peeled("refs/s/b", &nearly[0], &nearly[1]).unwrap();
-        let old = format!("{zeros} refs/s/a\n^{zeros}\n");
-        let Ok(Merged::New(new)) = merge(&old, &edits) else { panic!() };
-        let added = format!("{} refs/s/b\n^{}\n", nearly[0], nearly[1]);
-        assert!(new.ends_with(format!("sorted \n{old}{added}").as_bytes()));
-        let Ok(Asked::Charted(record)) = ask(kind, &new, "refs/s/a") else { panic!() };
-        assert_eq!((record.id, record.peeled), (zeros.as_bytes(), Some(zeros.as_bytes())));
-        assert_eq!(loose(kind, &zeros), Ok(Loose::Id(zeros.as_bytes())));
-    }
 }
 
 #[test]

@@ -351,10 +351,6 @@ fn merges_that_are_refused_write_nothing() {
         ("# only\ndelete refs//a\n", "line 2: number 8: "),
         (&long, "line 1: number 8: "),
         ("delete refs/s/a\rx\n", "line 1: number 8: "),
-        (&format!("\nupdate refs/s/b {}\nupdate refs//c {}\n", id('0'), id('1')), "line 2: number 21: the id has only zeros"),
-        (&format!("update refs/s/b {} {}\nx\n", id('1'), id('0')), "line 1: number 21: the peeled id has only zeros"),
-        (&format!("update refs/s/b {}\n", "0".repeat(64)), "line 1: number 21: the id has only zeros"),
-        (&format!("update refs//b {}\n", id('0')), "line 1: number 8: "),
         (&many, "line 4097: number 9: "),
         ("delete refs/s/b\n#\ndelete refs/s/a\ndelete refs/s/b\n", "line 4: number 11: "),
     ] {

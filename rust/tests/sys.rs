@@ -265,9 +265,6 @@ fn merges() {
     assert_eq!(run(&twice, b"", 0), MergeReply { number: 6, place: 50, ..none });
     assert_eq!(run(b"", b"\x00\x03a/b\x03", 9), MergeReply { number: 7, place: 5, ..none });
     assert_eq!(run(b"", b"\x00\x03a/b\x00\x03a//", 9), MergeReply { number: 8, place: 5, ..none });
-    let zero = [b"\x00\x03a/b\x01\x03a/c", &[0; 20][..]].concat();
-    assert_eq!(run(b"", &zero, 9), MergeReply { number: 21, place: 5, ..none });
-    assert_eq!(run(b"", &zero[..29], 9), MergeReply { number: 7, place: 5, ..none });
     let many: Vec<u8> = (0..4097u32).flat_map(|i| [b"\x00\x06a/".to_vec(), format!("{i:04}").into_bytes()].concat()).collect();
     assert_eq!(run(b"", &many, 9999), MergeReply { number: 9, place: 4096 * 8, ..none });
     assert_eq!(run(b"", b"\x00\x03a/b", 0), MergeReply { number: 10, ..none });

@@ -53,7 +53,7 @@ pub fn ask(kind: u32, file: &[u8], name: &[u8]) -> AskAnswer
 pub fn ask_with_digits(n: usize, file: &[u8], name: &[u8]) -> Told
     ensures { result ≡ ask_of paper n file.now name.now }
 {
-    if !names::is_valid(name) {
+    if !name::is_valid(name) {
         return Told::BadName;
     }
     match header::open(file) {

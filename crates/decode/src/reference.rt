@@ -46,7 +46,7 @@ pub fn reference(s: &[u8], n: usize) -> Reading
     let Text::Ended { end, next } = parse::line::until_line_end(s, from) else {
         return Reading::Bad(Fault::LineEnd);
     };
-    if !names::is_valid(parse::part::between(s, from, end)) {
+    if !name::is_valid(parse::part::between(s, from, end)) {
         return Reading::Bad(Fault::Name);
     }
     let name_len = end - from;

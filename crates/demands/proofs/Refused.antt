@@ -94,12 +94,6 @@ by_part l id space end name peeled LineEnd = end
 by_part l id space end name peeled Name = name
 by_part l id space end name peeled Peeled = peeled
 
-by_fault : (l : List ℕ) → AnsweredBy 7 l → AnsweredBy 8 l → AnsweredBy 21 l → AnsweredBy 9 l → (why : ListFault) → AnsweredBy (list_fault_number why) l
-by_fault l malformed name zero many (fault.BadEdit place edit.Malformed) = malformed
-by_fault l malformed name zero many (fault.BadEdit place edit.BadName) = name
-by_fault l malformed name zero many (fault.BadEdit place edit.ZeroId) = zero
-by_fault l malformed name zero many (fault.TooMany place) = many
-
 header_number_lem : (a : HeaderAnswer) → AnsweredBy (header_number a) (0 ∷ 17 ∷ 2 ∷ [])
 header_number_lem (headed.Done (opened.Header h)) = refl
 header_number_lem (headed.Done (opened.Unreadable k)) = refl
@@ -209,15 +203,17 @@ loose_number_lem (loosely.Done loose.BadTarget) = refl
 loose_number_lem loosely.UnknownKind = refl
 loose_number_lem loosely.TooLarge = refl
 
-merge_number_lem : (a : Merged) → AnsweredBy (merge_number a) (0 ∷ 1 ∷ 17 ∷ 7 ∷ 8 ∷ 21 ∷ 9 ∷ 10 ∷ 11 ∷ 13 ∷ 14 ∷ 12 ∷ 2 ∷ 6 ∷ bad_record)
+merge_number_lem : (a : Merged) → AnsweredBy (merge_number a) (0 ∷ 1 ∷ 17 ∷ 7 ∷ 8 ∷ 9 ∷ 10 ∷ 11 ∷ 13 ∷ 14 ∷ 12 ∷ 2 ∷ 6 ∷ bad_record)
 merge_number_lem (Done len) = refl
 merge_number_lem UnknownKind = refl
 merge_number_lem TooLarge = refl
-merge_number_lem (BadList why) = by_fault (0 ∷ 1 ∷ 17 ∷ 7 ∷ 8 ∷ 21 ∷ 9 ∷ 10 ∷ 11 ∷ 13 ∷ 14 ∷ 12 ∷ 2 ∷ 6 ∷ bad_record) refl refl refl refl why
+merge_number_lem (BadList (fault.BadEdit place edit.Malformed)) = refl
+merge_number_lem (BadList (fault.BadEdit place edit.BadName)) = refl
+merge_number_lem (BadList (fault.TooMany place)) = refl
 merge_number_lem ShortIndex = refl
 merge_number_lem (Twins place) = refl
 merge_number_lem (Refused (refusal.BadHeader k)) = refl
-merge_number_lem (Refused (refusal.BadRecord place f)) = by_part (0 ∷ 1 ∷ 17 ∷ 7 ∷ 8 ∷ 21 ∷ 9 ∷ 10 ∷ 11 ∷ 13 ∷ 14 ∷ 12 ∷ 2 ∷ 6 ∷ bad_record) refl refl refl refl refl f
+merge_number_lem (Refused (refusal.BadRecord place f)) = by_part (0 ∷ 1 ∷ 17 ∷ 7 ∷ 8 ∷ 9 ∷ 10 ∷ 11 ∷ 13 ∷ 14 ∷ 12 ∷ 2 ∷ 6 ∷ bad_record) refl refl refl refl refl f
 merge_number_lem (Refused (refusal.Unsorted place)) = refl
 merge_number_lem NothingToDo = refl
 merge_number_lem NoRecord = refl
@@ -242,9 +238,11 @@ turn_number_lem byte n file place last = go (ltb place (length file)) (record_of
     go true (Good r) = by_name (smaller last (name_in n (Good r) (drop place file))) r
     go true (Bad f) = by_part (0 ∷ 6 ∷ bad_record) refl refl refl refl refl f
 
-prepared_number_lem : (p : Prepared) → AnsweredBy (prepared_number p) (0 ∷ 17 ∷ 7 ∷ 8 ∷ 21 ∷ 9 ∷ 10 ∷ 11 ∷ [])
+prepared_number_lem : (p : Prepared) → AnsweredBy (prepared_number p) (0 ∷ 17 ∷ 7 ∷ 8 ∷ 9 ∷ 10 ∷ 11 ∷ [])
 prepared_number_lem (prepared.Ready k) = refl
-prepared_number_lem (prepared.BadList why) = by_fault (0 ∷ 17 ∷ 7 ∷ 8 ∷ 21 ∷ 9 ∷ 10 ∷ 11 ∷ []) refl refl refl refl why
+prepared_number_lem (prepared.BadList (fault.BadEdit place edit.Malformed)) = refl
+prepared_number_lem (prepared.BadList (fault.BadEdit place edit.BadName)) = refl
+prepared_number_lem (prepared.BadList (fault.TooMany place)) = refl
 prepared_number_lem prepared.ShortIndex = refl
 prepared_number_lem (prepared.Twins place) = refl
 prepared_number_lem prepared.TooLarge = refl
@@ -298,7 +296,9 @@ module _ (n : ℕ) (old list index : List ℕ) (room : ℕ) where
       by_twin k twin.Nothing = judged_late (old_entries paper n old) (edits_in_order paper n old list) room (check_of paper n old)
 
       fault_early : (why : ListFault) → before_eleven (list_fault_number why) ≡ true
-      fault_early why = by_fault (1 ∷ 17 ∷ 7 ∷ 8 ∷ 21 ∷ 9 ∷ 10 ∷ []) refl refl refl refl why
+      fault_early (fault.BadEdit place edit.Malformed) = refl
+      fault_early (fault.BadEdit place edit.BadName) = refl
+      fault_early (fault.TooMany place) = refl
 
       go : (b : Bool) → over_limit (length list) ≡ b → (l : Listed) → edits_of paper n list ≡ l → Index
       go true b l e = same (rw b) (rw b)

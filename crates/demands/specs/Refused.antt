@@ -42,19 +42,18 @@ pub record AllNumbered : Type 0 where
   pub ask_fault_lem : (kind : ℕ) (file name : List ℕ) → AnsweredBy (ask_fault (ask_answer kind file name)) (0 ∷ 6 ∷ bad_record)
   pub loose : (kind : ℕ) (content : List ℕ) → AnsweredBy (loose_number (loose_answer kind content)) (0 ∷ 1 ∷ 17 ∷ 15 ∷ 16 ∷ [])
   pub merge : (kind : ℕ) (old list : List ℕ) (indexRoom room : ℕ)
-      → AnsweredBy (merge_number (merge_answer kind old list indexRoom room)) (0 ∷ 1 ∷ 17 ∷ 7 ∷ 8 ∷ 21 ∷ 9 ∷ 10 ∷ 11 ∷ 13 ∷ 14 ∷ 12 ∷ 2 ∷ 6 ∷ bad_record)
+      → AnsweredBy (merge_number (merge_answer kind old list indexRoom room)) (0 ∷ 1 ∷ 17 ∷ 7 ∷ 8 ∷ 9 ∷ 10 ∷ 11 ∷ 13 ∷ 14 ∷ 12 ∷ 2 ∷ 6 ∷ bad_record)
   -- and what one layer answers to the next
   pub admit : (kind size other : ℕ) → AnsweredBy (admission_number (admission kind size other)) (0 ∷ 1 ∷ 17 ∷ [])
   pub turn : (byte : Classes) (n : ℕ) (file : List ℕ) (place : ℕ) (last : List ℕ) → AnsweredBy (turn_number (turn_of byte n file place last)) (0 ∷ 6 ∷ bad_record)
   pub prepare : (byte : Classes) (n : ℕ) (list : List ℕ) (room : ℕ)
-      → AnsweredBy (prepared_number (prepared_of byte n list room)) (0 ∷ 17 ∷ 7 ∷ 8 ∷ 21 ∷ 9 ∷ 10 ∷ 11 ∷ [])
+      → AnsweredBy (prepared_number (prepared_of byte n list room)) (0 ∷ 17 ∷ 7 ∷ 8 ∷ 9 ∷ 10 ∷ 11 ∷ [])
 
 -- ---- what a merge leaves of the memory that it is lent
 
--- the refusals that stand before 11 in "Order: 1, 17, 7/8/9 by place, 10, 11, 2, 4/6 by place, 13, 14, 12.", where document 02 has 41 to 45 for 4,
--- and 21 beside 8: "last within each edit, after the name rules"
+-- the refusals that stand before 11 in "Order: 1, 17, 7/8/9 by place, 10, 11, 2, 4/6 by place, 13, 14, 12.", where document 02 has 41 to 45 for 4
 abbrev pub before_eleven : ℕ → Bool
-before_eleven number = among number (1 ∷ 17 ∷ 7 ∷ 8 ∷ 21 ∷ 9 ∷ 10 ∷ [])
+before_eleven number = among number (1 ∷ 17 ∷ 7 ∷ 8 ∷ 9 ∷ 10 ∷ [])
 
 module _ (kind : ℕ) (old list index out : List ℕ) where
   abbrev pub number : ℕ

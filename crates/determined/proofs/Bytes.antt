@@ -28,6 +28,5 @@ bytes = record {
   compare_is_less = λ m k o o'. by_answer k o o' refl;
   compare_begins_with = λ m k o o'. by_answer k o o' refl;
   compare_is_same = λ m k o o'. by_answer k o o' refl;
-  name_by_one = λ m k o o'. by_answer k o o' refl;
-  names_is_valid = λ m k o o'. by_answer k o o' refl;
+  name_is_valid = λ m k o o'. by_answer k o o' refl;
 }

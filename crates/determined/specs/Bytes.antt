@@ -22,8 +22,7 @@ use Rattle.compare.specs.contracts.order.compare
 use Rattle.compare.specs.contracts.order.is_less
 use Rattle.compare.specs.contracts.prefix.begins_with
 use Rattle.compare.specs.contracts.prefix.is_same
-use Rattle.name.specs.contracts.by_one
-use Rattle.names.specs.contracts.is_valid
+use Rattle.name.specs.contracts.is_valid
 use Rattle.determined.specs.Outcomes.{Determined, DeterminedAs}
 
 pub record Bytes : Type 2 where
@@ -50,5 +49,4 @@ pub record Bytes : Type 2 where
   pub compare_is_less : Determined is_less.ended (λ M. is_less.clauses)
   pub compare_begins_with : Determined begins_with.ended (λ M. begins_with.clauses)
   pub compare_is_same : Determined is_same.ended (λ M. is_same.clauses)
-  pub name_by_one : Determined by_one.ended (λ M. by_one.clauses)
-  pub names_is_valid : Determined is_valid.ended (λ M. is_valid.clauses)
+  pub name_is_valid : Determined is_valid.ended (λ M. is_valid.clauses)

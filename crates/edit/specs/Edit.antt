@@ -1,45 +1,26 @@
 -- One edit at the front of the bytes s, with ids of n digits.
-use Rattle.std.specs.Prelude.{Bool, false, ◌&&◌, ◌||◌, List, ℕ, zero, suc, ◌+◌, ◌*◌, ◌/◌, leb, ltb, eqb, length}
+use Rattle.std.specs.Prelude.{◌&&◌, ◌||◌, List, ℕ, ◌+◌, ◌*◌, ◌/◌, leb, ltb, eqb, length}
 use Rattle.parse.specs.Choice.{if}
 use Rattle.class.specs.Class.{Classes}
-use Rattle.name.specs.Words.{all}
 use Rattle.name.specs.Name.{valid_name}
 use Rattle.length.specs.Length.{length_at, measured}
-use Rattle.parts.specs.Parts.{edit_kind, edit_name, edit_id, edit_peeled}
+use Rattle.parts.specs.Parts.{edit_kind, edit_name}
 use Rattle.edit.specs.declared.EditReading.{EditReading}
 use Rattle.edit.specs.declared.EditReading.TheVariants.{Good, Bad}
 use Rattle.edit.specs.declared.EditFault.{EditFault}
-use Rattle.edit.specs.declared.EditFault.TheVariants.{Malformed, BadName, ZeroId}
+use Rattle.edit.specs.declared.EditFault.TheVariants.{Malformed, BadName}
 
 -- "For 1 and 2 the id in raw bytes (20 or 32), for 2 the peeled id": as many ids as the kind's number, each of half as many bytes as digits
 abbrev pub id_bytes : ℕ → ℕ → ℕ
 id_bytes kind n = kind * (n / 2)
 
--- ---- Document 02, Thirteen: "Refuse an update whose id or peeled id has only zero bytes."
-
-abbrev pub only_zeros : List ℕ → Bool
-only_zeros id = all (λ b. eqb b 0) id
-
--- by its kind, its id and its peeled id in raw bytes: a delete has none, an update one, an update with a peeled id two
-abbrev pub has_zero_id : ℕ → List ℕ → List ℕ → Bool
-has_zero_id zero id peeled = false
-has_zero_id (suc zero) id peeled = only_zeros id
-has_zero_id (suc (suc kind)) id peeled = only_zeros id || only_zeros peeled
-
--- ---- an edit
-
--- an edit that stands in full and takes so many bytes, by whether its name is valid and whether an id of it has only zeros: "name rules (8)"; and Thirteen:
--- "21, last within each edit, after the name rules"
-abbrev pub whole_edit : Bool → Bool → ℕ → EditReading
-whole_edit valid zeroId size = if valid (if zeroId (Bad ZeroId) (Good size)) (Bad BadName)
-
 -- the end of the sentence below, once the length and what the ids take are known: "length 0 or over 4,096 (8), cut short anywhere behind it (7),
 -- name rules (8)"
-unfoldable pub named_edit : Classes → ℕ → List ℕ → ℕ → ℕ → ℕ → EditReading
-named_edit byte n s from len ids =
+unfoldable pub named_edit : Classes → List ℕ → ℕ → ℕ → ℕ → EditReading
+named_edit byte s from len ids =
     if (eqb len 0 || ltb 4096 len) (Bad BadName)
     (if (leb (from + len + ids) (length s))
-    (whole_edit (valid_name byte (edit_name s 0)) (has_zero_id (edit_kind s 0) (edit_id n s 0) (edit_peeled n s 0)) (from + len + ids))
+    (if (valid_name byte (edit_name s 0)) (Good (from + len + ids)) (Bad BadName))
     (Bad Malformed))
 
 -- "In each edit: kind (7), length form, an unfinished length included (7), length 0 or over 4,096 (8), cut short anywhere behind it (7),
@@ -48,11 +29,10 @@ unfoldable pub edit_of : Classes → ℕ → List ℕ → EditReading
 edit_of byte n s =
     let kind = edit_kind s 0 in
     if (ltb 0 (length s) && leb kind 2)
-    (measured (length_at s 1) (λ len from. named_edit byte n s from len (id_bytes kind n)) (Bad Malformed))
+    (measured (length_at s 1) (λ len from. named_edit byte s from len (id_bytes kind n)) (Bad Malformed))
     (Bad Malformed)
 
--- the paper's number for each fault: "edit list malformed"; "edit name empty, over 4,096 bytes, or breaking the name rules"; and Thirteen's "Refusals: 21"
+-- the paper's number for each fault: "edit list malformed"; "edit name empty, over 4,096 bytes, or breaking the name rules"
 abbrev pub edit_fault_number : EditFault → ℕ
 edit_fault_number Malformed = 7
 edit_fault_number BadName = 8
-edit_fault_number ZeroId = 21

@@ -5,9 +5,6 @@ ghost use Rattle.edit.specs.Edit.{named_edit, edit_of};
 
 use length::Length;
 
-mod whole;
-mod zeros;
-
 // Why an edit can't be taken.
 #[derive(Drop)]
 pub enum EditFault {
@@ -15,8 +12,6 @@ pub enum EditFault {
     Malformed,
     // A name that is empty, too long, or breaks the name rules.
     BadName,
-    // An update whose id or peeled id has only zero bytes.
-    ZeroId,
 }
 
 #[derive(Drop)]
@@ -40,12 +35,12 @@ pub fn read(n: usize, s: &[u8]) -> EditReading
     let Length::Of { value, next } = length::length_at(s, 1) else {
         return EditReading::Bad(EditFault::Malformed);
     };
-    behind_length(n, s, next, value, wide(kind) * (n / 2))
+    behind_length(s, next, value, wide(kind) * (n / 2))
 }
 
 // The edit whose name has this length and stands at this place, with ids of so many bytes behind it.
-fn behind_length(n: usize, s: &[u8], from: usize, len: usize, ids: usize) -> EditReading
-    ensures { result ≡ named_edit paper n s.now from len ids }
+fn behind_length(s: &[u8], from: usize, len: usize, ids: usize) -> EditReading
+    ensures { result ≡ named_edit paper s.now from len ids }
 {
     if len == 0 {
         return EditReading::Bad(EditFault::BadName);
@@ -56,12 +51,11 @@ fn behind_length(n: usize, s: &[u8], from: usize, len: usize, ids: usize) -> Edi
     if !stands(s, from, len, ids) {
         return EditReading::Bad(EditFault::Malformed);
     }
+    if !name::is_valid(parts::edit_name(s, 0)) {
+        return EditReading::Bad(EditFault::BadName);
+    }
     let size = from + len + ids;
-    whole::judged(
-        names::is_valid(parts::edit_name(s, 0)),
-        whole::has_zero_id(n, s),
-        size,
-    )
+    EditReading::Good(size)
 }
 
 // Whether a name and ids of these lengths stand there in full.

@@ -9,7 +9,6 @@ use lib.ListN.{get_or, length, drop, set, length-append, length-drop}
 use lib.Seq.{drop-cons, set_at}
 use Rattle.class.specs.Class.{Classes}
 use Rattle.edit.specs.declared.EditFault.{EditFault}
-use Rattle.edit.specs.declared.EditReading.{EditReading}
 use Rattle.edit.specs.declared.EditReading.TheVariants.{Good, Bad}
 use Rattle.edit.specs.Edit.{edit_of}
 use Rattle.edits.specs.List.{Listed, all, bad, with_place, edits_from, edits_of, is_whole, places_of}
@@ -53,15 +52,8 @@ module _ (byte : Classes) (n : ℕ) (list : List ℕ) where
     turn : (t : ℕ) × (edits_from byte n list (suc t) place ≡ all f.left)
     turn = let m = more f.turns f.rest in (m.0, ap (λ (k : ℕ). edits_from byte n list k place) (sym m.1) ∙ f.rest)
 
-    no_bad : {f : EditFault} → edit_of byte n (drop place list) ≡ Bad f → ⊥
+    pub no_bad : {f : EditFault} → edit_of byte n (drop place list) ≡ Bad f → ⊥
     no_bad {f} e = let z : ◌≡◌ {A = ℕ} 0 1 = cc (from_bad byte n list place inside turn.0 {f = f} e, turn.1) in omega arith
-
-    pub good_here : (size : ℕ) × (edit_of byte n (drop place list) ≡ Good size)
-    good_here = go (edit_of byte n (drop place list)) refl
-      where
-        go : (r : EditReading) → edit_of byte n (drop place list) ≡ r → (size : ℕ) × (edit_of byte n (drop place list) ≡ Good size)
-        go (Good size) e = (size, e)
-        go (Bad f) e = absurd (no_bad e)
 
     module _ (size : ℕ) (e : edit_of byte n (drop place list) ≡ Good size) (room : length places ≤ length index₀) where
       Rest : Type 0

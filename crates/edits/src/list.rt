@@ -4,7 +4,6 @@ ghost use Rattle.class.specs.Class.{paper};
 ghost use Rattle.edits.specs.List.{edits_of, counted, is_whole, places_of, in_order, prepared_of, twins_of, index_after};
 
 use edit::{EditFault, EditReading};
-use length::Length;
 use places::name::Layout;
 use sort::twin::Twin;
 
@@ -101,7 +100,7 @@ fn twins(index: &[u32], list: &[u8], k: usize) -> Prepared
     }
 }
 
-// The edits' places, in list order. Each edit was read before, so its length and its kind say where the next one begins.
+// The edits' places, in list order.
 fn fill(n: usize, list: &[u8], index: &mut [u32])
     requires { (length list.now < 4294967296) × (is_whole (edits_of paper n list.now) ≡ true)
         × (length (places_of (edits_of paper n list.now)) ≤ length index.old) }
@@ -111,12 +110,16 @@ fn fill(n: usize, list: &[u8], index: &mut [u32])
     let mut place = 0;
     let mut i = 0;
     while place < list.len() {
-        index[i] = place as u32;
-        let Length::Of { value, next } = length::length_at(list, place + 1) else {
-            return;
-        };
-        let ids = parts::edit_kind(list, place as u32) as usize;
-        place = next + value + ids * (n / 2);
-        i += 1;
+        let rest = &list[place..];
+        match edit::read(n, rest) {
+            EditReading::Good(size) => {
+                index[i] = place as u32;
+                place += size;
+                i += 1;
+            }
+            EditReading::Bad(_) => {
+                return;
+            }
+        }
     }
 }

@@ -42,7 +42,7 @@ pub fn find(kind: u32, body: &[u8], name: &[u8]) -> LookupAnswer
 pub fn find_with_digits(n: usize, body: &[u8], name: &[u8]) -> Lookup
     ensures { result ≡ lookup_of paper n body.now name.now }
 {
-    if !names::is_valid(name) {
+    if !name::is_valid(name) {
         return Lookup::BadName;
     }
     match search::search(n, body, name) {

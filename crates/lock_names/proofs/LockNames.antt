@@ -2,9 +2,11 @@
 use mathlib.Core.Path.{◌≡◌, refl, sym, ap, ◌∙◌}
 use mathlib.Core.Bool.{Bool, true, false}
 use mathlib.Core.List.{List}
-use Prim.Native.Nat.{ℕ}
+use Prim.Native.Nat.{ℕ, ◌+◌, ◌≤◌}
 use native.Mathlib.Numerals.{add-one}
 use native.Mathlib.Omega.{arith}
+use borrow.Author.Tests.{le-leb, eqb-true, eqb-false, ltb-true, ltb-false}
+use lib.Dec.{eqb, ltb}
 use lib.ListN.{length, take, drop}
 use Rattle.class.specs.Class.{paper}
 use Rattle.parse.specs.declared.limit.Admission.TheVariants.{Digits}
@@ -20,7 +22,11 @@ use Rattle.decode.proofs.Parts.{no_name}
 use Rattle.decode.proofs.Records.{name_len, Head, View, is_bad_lem, plain, peeled, view}
 use Rattle.find.specs.Lookup.{lookup_of, lookup_answer, lookup_number}
 use Rattle.ask.specs.Ask.{ask_of, ask_answer, ask_number}
-use Rattle.edit.proofs.Readings.{invalid_edit}
+use Rattle.parts.specs.Parts.{edit_kind, edit_name}
+use Rattle.edit.specs.declared.EditFault.TheVariants.{BadName}
+use Rattle.edit.specs.declared.EditReading.TheVariants as edit
+use Rattle.edit.specs.Edit.{id_bytes, named_edit}
+use Rattle.edit.proofs.Readings.{good_length, empty_name, long_name, bad_name_lem}
 use Rattle.loose.specs.Loose.{ref_mark, path_start, path_len, symbolic_of, loose_of, loose_answer, loose_number}
 use Rattle.lock_names.specs.LockNames.{Refused, LockNames}
 
@@ -58,6 +64,16 @@ module _ (kind n : ℕ) (name : List ℕ) (invalid : valid_name paper name ≡ f
   unfolding ask_answer ask_of
   asked file h = rw (h, invalid)
 
+  -- a length of 0 or beyond 4,096 is refused as the name is
+  edited : (s : List ℕ) (from len ids : ℕ) → from + len + ids ≤ length s → edit_name s 0 ≡ name → named_edit paper s from len ids ≡ edit.Bad BadName
+  edited s from len ids whole is = go (eqb len 0) refl (ltb 4096 len) refl
+    where
+      go : (t : Bool) → eqb len 0 ≡ t → (u : Bool) → ltb 4096 len ≡ u → named_edit paper s from len ids ≡ edit.Bad BadName
+      go true e u f = empty_name paper s from len ids (eqb-true len 0 e)
+      go false e true f = long_name paper s from len ids (ltb-true 4096 len f)
+      go false e false f =
+          bad_name_lem paper s from len ids (eqb-false len 0 e) (ltb-false 4096 len f) (le-leb (from + len + ids) (length s) whole) (ap (valid_name paper) is ∙ invalid)
+
   targeted : (content : List ℕ) → admission kind (length content) 0 ≡ Digits n → begins ref_mark content ≡ true
       → take (path_len paper (drop (path_start content) content)) (drop (path_start content) content) ≡ name → loose_number (loose_answer kind content) ≡ 16
   unfolding loose_answer loose_of symbolic_of
@@ -70,7 +86,7 @@ module _ (kind n : ℕ) (name : List ℕ) (invalid : valid_name paper name ≡ f
         no_record = λ s r e is. absurd (let z : true ≡ false = sym (record_name n s r e) ∙ ap (valid_name paper) is ∙ invalid in let x : ◌≡◌ {A = ℕ} 0 1 = cc in omega arith);
         lookup = looked_up;
         ask = asked;
-        bad_edit = λ s some known length whole is. (invalid_edit paper n s some known length whole (ap (valid_name paper) is ∙ invalid), refl);
+        bad_edit = λ s {len} {from} some known length whole is. (good_length paper n s some known length ∙ edited s from len (id_bytes (edit_kind s 0) n) whole is, refl);
         target = targeted;
       }
 

@@ -52,7 +52,7 @@ pub fn read_with_digits(n: usize, content: &[u8]) -> Loose
     if compare::prefix::begins_with(content, b"ref: ") {
         let from = past_spaces(content, 5);
         let end = path_end(&t, content, from);
-        if !names::is_valid(parse::part::between(content, from, end)) {
+        if !name::is_valid(parse::part::between(content, from, end)) {
             return Loose::BadTarget;
         }
         let len = end - from;

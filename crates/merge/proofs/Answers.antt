@@ -3,15 +3,14 @@ use mathlib.Core.Path.{◌≡◌, refl}
 use mathlib.Core.Bool.{Bool, true, false}
 use mathlib.Core.List.{List}
 use Prim.Native.Nat.{ℕ, ◌≤◌, ◌<◌}
-use native.Mathlib.Omega.{arith}
 use lib.ListN.{length}
 use borrow.Author.Tests.{eq-eqb, ne_eqb, lt-ltb, le-ltb}
 use Rattle.decode.specs.declared.reference.Fault.TheVariants.{Id, Space, LineEnd, Name, Peeled}
 use Rattle.checks.specs.declared.Refusal.{Refusal}
 use Rattle.checks.specs.declared.Refusal.TheVariants.{BadHeader, BadRecord, Unsorted}
+use Rattle.edit.specs.declared.EditFault.TheVariants.{Malformed, BadName}
 use Rattle.edits.specs.declared.list.ListFault.{ListFault}
-use Rattle.edits.specs.List.{list_fault_number}
-use Rattle.edits.proofs.Numbers.{list_number}
+use Rattle.edits.specs.declared.list.ListFault.TheVariants.{BadEdit, TooMany}
 use Rattle.merge.specs.declared.Merged.TheVariants.{Done, BadList, Refused, NothingToDo, NoRecord, ShortOutput}
 use Rattle.merge.specs.Merge.{output_by}
 use Rattle.merge.specs.Splice.{spliced_answer}
@@ -37,7 +36,9 @@ module _ (header : List ℕ) (still : Bool) (new : List ℕ) (room : ℕ) where
 
 module _ (new out : List ℕ) where
   pub list_refused : (why : ListFault) → output_by new out (BadList why) ≡ out
-  list_refused why = rw (ne_eqb (list_fault_number why) 0 (λ z. omega (arith, list_number why)))
+  list_refused (BadEdit place Malformed) = refl
+  list_refused (BadEdit place BadName) = refl
+  list_refused (TooMany place) = refl
 
   pub old_refused : (why : Refusal) → output_by new out (Refused why) ≡ out
   old_refused (BadHeader text) = refl

@@ -1,8 +1,9 @@
--- Every edit of a list that has no fault has a valid name and no zero id, and puts a sound entry of that name there, or none.
+-- Every edit of a list that has no fault has a valid name, and puts a sound entry of that name there, or none.
 use mathlib.Core.Path.{◌≡◌, refl, sym, ap, ◌∙◌}
 use mathlib.Core.Bool.{Bool, true, false}
 use mathlib.Core.List.{List, [], ◌∷◌}
 use Prim.Native.Nat.{ℕ, zero, suc, ◌+◌, ◌*◌, ◌/◌, ◌≤◌, ◌<◌}
+use native.Mathlib.Nat.{add-zero}
 use native.Mathlib.Omega.{arith}
 use lib.Dec.{ltb}
 use lib.ListN.{length, get_or, take, drop, length-drop}
@@ -16,15 +17,15 @@ use Rattle.edit.specs.declared.EditReading.TheVariants.{Good, Bad}
 use Rattle.length.specs.declared.Length.TheVariants as long
 use Rattle.length.specs.Length.{length_at}
 use Rattle.length.proofs.Groups.{length_there}
-use Rattle.parts.specs.Parts.{edit_kind, edit_name, behind_name, edit_id, edit_peeled}
+use Rattle.parts.specs.Parts.{edit_kind, edit_name, behind_name}
 use Rattle.parts.proofs.Parts.{name_there, behind_there}
-use Rattle.edit.specs.Edit.{id_bytes, has_zero_id, edit_of}
+use Rattle.edit.specs.Edit.{id_bytes, edit_of}
 use Rattle.edits.specs.declared.list.ListFault.TheVariants.{TooMany}
 use Rattle.edits.specs.List.{Listed, all, bad, with_place, listed_by, edits_from, edits_of}
 use Rattle.hex_digits.specs.Hex.{hex_text}
 use Rattle.hex_digits.proofs.Laws.{length_hex, hex_is_hex}
 use Rattle.merge.specs.Override.{new_of, edit_at}
-use Rattle.edit.proofs.Parts.{Whole, good_whole, kind_there}
+use Rattle.edit.proofs.Parts.{Whole, good_whole}
 use Rattle.merge.proofs.Entries.{Digits, AllOf}
 
 -- ---- a list that has no fault: at each place a good edit stands, and there are no more of them than turns
@@ -104,22 +105,14 @@ module _ (n : ℕ) (list : List ℕ) (place : ℕ) (w : IsEdit paper n list plac
       (name_there list place measure ∙ ap (take w.len) (sym (drop-drop w.from place list)) ∙ sym (name_there (drop place list) 0 w.measure))
       ∙ w.valid
 
-  ids_there : behind_name (drop place list) 0 ≡ behind_name list place
-  ids_there =
-      let at : place + (w.from + w.len) ≡ place + w.from + w.len = omega arith in
-      behind_there (drop place list) 0 w.measure
-      ∙ drop-drop (w.from + w.len) place list
-      ∙ ap (λ k. drop k list) at
-      ∙ sym (behind_there list place measure)
-
-  pub edit_nonzero : has_zero_id (edit_kind list place) (edit_id n list place) (edit_peeled n list place) ≡ false
-  edit_nonzero = rw (kind_there list place, ids_there) at w.nonzero
+  kind_there : edit_kind (drop place list) 0 ≡ edit_kind list place
+  kind_there = get_or-drop place list 0 0 ∙ ap (edit_kind list) (add-zero place)
 
   pub edit_puts : (half : ℕ) → n ≡ 2 * half → ((i : ℕ) → get_or list i 0 < 256) → AllOf n (edit_name list place) (edit_at n list place).new
   edit_puts half even bytes =
-      let whole : w.from + w.len + id_bytes (edit_kind list place) n ≤ length (drop place list) = rw (kind_there list place) at w.fits in
+      let whole : w.from + w.len + id_bytes (edit_kind list place) n ≤ length (drop place list) = rw kind_there at w.fits in
       let at = place + w.from + w.len in
       let ids : behind_name list place ≡ drop at list = behind_there list place measure in
-      new_of_lem n half even (edit_kind list place) (edit_name list place) (behind_name list place) (omega (arith, w.known, kind_there list place)) edit_name_valid
+      new_of_lem n half even (edit_kind list place) (edit_name list place) (behind_name list place) (omega (arith, w.known, kind_there)) edit_name_valid
       (rw (ids, length-drop at list) (omega (arith, length-drop place list)))
       (λ i. rw (ids, get_or-drop at list i 0) (bytes (at + i)))

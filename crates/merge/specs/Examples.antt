@@ -5,7 +5,7 @@ use Rattle.header.specs.Header.{mark}
 use Rattle.lines.specs.Lines.{header_line}
 use Rattle.merge.specs.declared.Merged.{Merged}
 use Rattle.checks.specs.declared.Refusal.TheVariants.{BadHeader, BadRecord, Unsorted}
-use Rattle.edit.specs.declared.EditFault.TheVariants.{Malformed, BadName, ZeroId}
+use Rattle.edit.specs.declared.EditFault.TheVariants.{Malformed, BadName}
 use Rattle.edits.specs.declared.list.ListFault.TheVariants.{BadEdit, TooMany}
 use Rattle.merge.specs.declared.Merged.TheVariants.{Done, UnknownKind, TooLarge, BadList, ShortIndex, Twins, Refused, NothingToDo, NoRecord, ShortOutput}
 use Rattle.merge.specs.Merge.{merge_answer, merge_number, index_answer, output_after}
@@ -152,8 +152,6 @@ cases =
     -- 7 and 8 with the edit's start, before the index is seen to be short
     ∷ refused 1 [] (delete 97 ++ 3 ∷ []) [] [] (BadList (BadEdit 10 Malformed)) 7
     ∷ refused 1 [] (delete 97 ++ 0 ∷ 0 ∷ []) [] [] (BadList (BadEdit 10 BadName)) 8
-    -- 21 the same way: an update to twenty zero bytes
-    ∷ refused 1 [] (delete 97 ++ update 98 (replicate 20 0)) [] [] (BadList (BadEdit 10 ZeroId)) 21
     -- 10: an index of one for two edits is unchanged, and that they are of one name is not seen
     ∷ refused 1 [] (delete 97 ++ delete 97) (7 ∷ []) (7 ∷ []) ShortIndex 10
     -- 11 tells the second place of the first equal pair, here of the edits of `b`; from it on the index is filled. `#` is not seen

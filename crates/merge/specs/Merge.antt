@@ -92,7 +92,7 @@ module _ (byte : Classes) (n : ℕ) (file : List ℕ) where
     unfoldable pub edits_in_order : List Override
     edits_in_order = edits_at n list (in_order list (places_of (edits_of byte n list)))
 
-    -- "7/8/9 by place, 10, 11", and document 02's 21 by place with the first three
+    -- "7/8/9 by place, 10, 11"
     abbrev pub listed : ℕ → Prepared → Merged
     listed room (prepared.Ready k) = judged edits_in_order room
     listed room (prepared.BadList why) = BadList why
@@ -106,7 +106,7 @@ module _ (byte : Classes) (n : ℕ) (file : List ℕ) where
     unfoldable pub output_of : ℕ → List ℕ → List ℕ
     output_of indexRoom out = output_by (new_file old_entries edits_in_order) out (merge_of indexRoom (length out))
 
--- "Order: 1, 17, 7/8/9 by place, 10, 11, 2, 4/6 by place, 13, 14, 12.", where document 02 has 41 to 45 for 4, and 21 by place with 7, 8 and 9
+-- "Order: 1, 17, 7/8/9 by place, 10, 11, 2, 4/6 by place, 13, 14, 12.", where document 02 has 41 to 45 for 4
 unfoldable pub merge_answer : ℕ → List ℕ → List ℕ → ℕ → ℕ → Merged
 merge_answer kind file list indexRoom room =
     admit (admission kind (length file) (length list)) (λ n. merge_of paper n file list indexRoom room) UnknownKind TooLarge

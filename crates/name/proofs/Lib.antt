@@ -1,8 +1,9 @@
--- Laws is for the crates above, and ByLetters is a theorem for the reader; Bools, Components and OnePass serve the proofs of this crate and of `names` alone, Ends
--- those of this crate.
-pub mod Bools
+-- Laws is for the crates above, and ByLetters is a theorem for the reader; the others serve the proofs of this crate alone.
+mod Bools
 pub mod ByLetters
-pub mod Components
+mod Components
 mod Ends
 pub mod Laws
-pub mod OnePass
+mod OnePass
+mod PlainNames
+mod Slashes

@@ -1,3 +1,4 @@
 pub mod ByLetters
 pub mod Name
+pub mod Plain
 pub mod Words

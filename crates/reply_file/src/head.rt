@@ -79,7 +79,7 @@ pub fn name_number(name: &[u8]) -> u32
     if parse::limit::over_limit(name.len()) {
         return 17;
     }
-    if names::is_valid(name) {
+    if name::is_valid(name) {
         return 0;
     }
     3

@@ -12,7 +12,7 @@ merge_gives number place line len text_len = record { number = number; place = p
 
 -- what stands beside a number: "check and merge give the item's place in the lent file for 4 and 6, merge the edit's start for 7, 8, 9 and 11,
 -- .. and 2 its text; nothing else is given with a refusal", where document 02 has 41 to 45 for 4, and an error's line with each of these: "Check and merge pass
--- the same on for 4."; and the edit's start for Thirteen's 21, too, for it is a fault of an edit; "The answer gives the length"
+-- the same on for 4."; "The answer gives the length"
 abbrev pub merge_beside : ℕ → List ℕ → Merged → MergeReply
 merge_beside number old (Done len) = merge_gives number 0 0 len 0
 merge_beside number old UnknownKind = merge_gives number 0 0 0 0

@@ -12,7 +12,7 @@ use merge::Merged;
 #[derive(Drop)]
 pub struct MergeReply {
     pub number: u32,
-    // Where the item of numbers 41 to 45 and 6 starts in the old file, or the edit of number 7, 8, 9, 11 or 21 in the list.
+    // Where the item of numbers 41 to 45 and 6 starts in the old file, or the edit of number 7, 8, 9 or 11 in the list.
     pub place: usize,
     // Beside 41 to 45 the number of the line that starts there in the old file.
     pub line: u64,
@@ -66,7 +66,6 @@ fn edit_fault_number(fault: EditFault) -> u32
     match fault {
         EditFault::Malformed => 7,
         EditFault::BadName => 8,
-        EditFault::ZeroId => 21,
     }
 }
 

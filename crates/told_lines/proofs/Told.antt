@@ -1,11 +1,10 @@
 -- Whichever function tells an error, its line number is the true one and its text the whole line from the place on.
 use mathlib.Core.Path.{◌≡◌, refl, sym, ap, ◌∙◌}
-use mathlib.Core.Bool.{true, false}
+use mathlib.Core.Bool.{true}
 use mathlib.Core.List.{List, []}
-use Prim.Native.Nat.{ℕ, ◌≤◌, ◌<◌}
+use Prim.Native.Nat.{ℕ, ◌≤◌}
 use native.Mathlib.Omega.{arith}
 use lib.ListN.{length, drop}
-use borrow.Author.Tests.{ne_eqb}
 use Rattle.class.specs.Class.{paper}
 use Rattle.parse.specs.declared.limit.Admission.{Admission}
 use Rattle.parse.specs.declared.limit.Admission.TheVariants as admission-is
@@ -42,8 +41,7 @@ use Rattle.ask.specs.declared.AskAnswer.{AskAnswer}
 use Rattle.ask.specs.declared.AskAnswer.TheVariants as ask-is
 use Rattle.ask.specs.Ask.{ask_of, ask_answer}
 use Rattle.edits.specs.declared.list.ListFault.TheVariants.{BadEdit, TooMany}
-use Rattle.edit.specs.Edit.{edit_fault_number}
-use Rattle.edit.proofs.Numbers.{fault_number_lem}
+use Rattle.edit.specs.declared.EditFault.TheVariants.{Malformed, BadName}
 use Rattle.merge.specs.declared.Merged.{Merged}
 use Rattle.merge.specs.declared.Merged.TheVariants as merge_is
 use Rattle.merge.specs.Merge.{merge_of, merge_answer}
@@ -179,14 +177,6 @@ ask_true kind file name h = go (admission kind (length file) (length name)) refl
     go admission-is.UnknownKind e q = absurd (let z : ◌≡◌ {A = ℕ} 0 1 = cc in omega arith)
     go admission-is.TooLarge e q = absurd (let z : ◌≡◌ {A = ℕ} 0 1 = cc in omega arith)
 
--- no number below 41 is a bad record's
-not_bad : (k : ℕ) → k < 41 → is_bad k ≡ true → ⊥
-not_bad k h q =
-    let none : is_bad k ≡ false =
-    rw (ne_eqb 41 k (λ z. omega arith), ne_eqb 42 k (λ z. omega arith), ne_eqb 43 k (λ z. omega arith), ne_eqb 44 k (λ z. omega arith), ne_eqb 45 k (λ z. omega arith)) in
-    let z : ◌≡◌ {A = ℕ} 0 1 = cc in
-    omega arith
-
 merge_true : (kind : ℕ) (old list : List ℕ) (indexRoom room : ℕ) → is_bad (merged kind old list indexRoom room).number ≡ true
     → TrueAt old (merged kind old list indexRoom room).place (merged kind old list indexRoom room).line (merged kind old list indexRoom room).text_len
 unfolding merge_answer
@@ -200,7 +190,8 @@ merge_true kind old list indexRoom room h = go (admission kind (length old) (len
     by small (merge_is.Done len) q = absurd (let z : ◌≡◌ {A = ℕ} 0 1 = cc in omega arith)
     by small merge_is.UnknownKind q = absurd (let z : ◌≡◌ {A = ℕ} 0 1 = cc in omega arith)
     by small merge_is.TooLarge q = absurd (let z : ◌≡◌ {A = ℕ} 0 1 = cc in omega arith)
-    by small (merge_is.BadList (BadEdit place f)) q = absurd (not_bad (edit_fault_number f) (fault_number_lem f).1 q)
+    by small (merge_is.BadList (BadEdit place Malformed)) q = absurd (let z : ◌≡◌ {A = ℕ} 0 1 = cc in omega arith)
+    by small (merge_is.BadList (BadEdit place BadName)) q = absurd (let z : ◌≡◌ {A = ℕ} 0 1 = cc in omega arith)
     by small (merge_is.BadList (TooMany place)) q = absurd (let z : ◌≡◌ {A = ℕ} 0 1 = cc in omega arith)
     by small merge_is.ShortIndex q = absurd (let z : ◌≡◌ {A = ℕ} 0 1 = cc in omega arith)
     by small (merge_is.Twins place) q = absurd (let z : ◌≡◌ {A = ℕ} 0 1 = cc in omega arith)

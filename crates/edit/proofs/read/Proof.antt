@@ -93,7 +93,7 @@ returns-4 c =
     let w = c.before in
     let b = start (told w) in
     c.behind-length.ensures
-    ∙ ap (named_edit (byte b) (n b) (s b) (from w) (len w)) (ids w)
+    ∙ ap (named_edit (byte b) (s b) (from w) (len w)) (ids w)
     ∙ sym (good_length (byte b) (n b) (s b) (search rules) (known (told w)) (measure w))
 
 pub read_spec : {M : Type 1} → statement M

@@ -3,7 +3,7 @@ use crate::input::Input;
 use crate::refusal::{Refusal, Trouble};
 use crate::rule;
 use crate::words::{shown, Quoted};
-use packed_refs::{check_name, is_zero, Edits, Error, IdKind, Reason};
+use packed_refs::{check_name, Edits, Error, IdKind, Reason};
 use std::ffi::OsStr;
 
 /// The longest name that an edit may have, and the most edits that a merge takes.
@@ -56,7 +56,6 @@ impl<'a> EditLines<'a> {
             };
             let kind = edits.kind_with(number, ids)?;
             edits.test_name(number, name)?;
-            edits.test_zeros(number, ids)?;
             edits.kind = kind;
             edits.lines.push(EditLine { number, name, ids: ids.to_vec() });
         }
@@ -85,15 +84,6 @@ impl<'a> EditLines<'a> {
             Err(_) => format!("the name {} breaks a name rule: {}", Quoted(name), rule::broken(name)),
         };
         Err(self.refused(number, Reason::BadEditName, &what))
-    }
-
-    /// No update may have an id of zeros only: last in each line, as the merge has it.
-    fn test_zeros(&self, number: usize, ids: &[&[u8]]) -> Result<(), Refusal> {
-        match ids.iter().position(|id| is_zero(id)) {
-            None => Ok(()),
-            Some(0) => Err(self.refused(number, Reason::ZeroId, "the id has only zeros, which mean that there is none")),
-            Some(_) => Err(self.refused(number, Reason::ZeroId, "the peeled id has only zeros, which mean that there is none")),
-        }
     }
 
     /// The list for a merge with ids of a kind.

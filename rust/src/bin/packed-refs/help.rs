@@ -11,7 +11,6 @@ const RIGHT: usize = 30;
 const MORE: &str = "\
 FILE, OLD, EDITS and the file of --names may be - for standard input. Bytes that a terminal would obey are shown as \\xNN.
 EDITS has one edit a line: 'update NAME ID [PEELED]' or 'delete NAME'. Blank lines and lines that begin with # are skipped.
-An ID or PEELED of zeros only, which means that there is none, is refused.
 A file that is not there is no answer. Only merge -o takes an OLD that is not there for an empty one, if NEW is not there either.
 A file that changes while it is read is read anew, and is no answer if it goes on changing. A lock is waited for, for a second.
 ";

@@ -74,7 +74,7 @@ returns-2 c =
 returns-3 : tie.Need-returns-3
 returns-3 c =
     let known = c.before.before.before.before.before in
-    rw (c.step-gives3.ensures, known.before.answer.given.1, c.before.before.before.said3.given.1, c.before.fault_number_lem.ensures, known.before.before.before.no-parts.ensures)
+    rw (c.step-gives3.ensures, known.before.answer.given.1, c.before.before.before.said3.given.1, c.before.fault-number.ensures, known.before.before.before.no-parts.ensures)
 
 returns-4 : tie.Need-returns-4
 returns-4 c = rw (c.step-gives4.ensures, c.before.enum_told.given.1, c.before.before.before.no-parts.ensures)

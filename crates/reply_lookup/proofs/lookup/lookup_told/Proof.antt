@@ -78,7 +78,7 @@ returns c =
 returns-2 : tie.Need-returns-2
 returns-2 c =
     let known = c.before.before.before.before.before in
-    rw (c.lookup-gives2.ensures, known.before.answer.given.1, c.before.before.before.said2.given.1, c.before.fault_number_lem.ensures, known.before.before.before.no-parts.ensures)
+    rw (c.lookup-gives2.ensures, known.before.answer.given.1, c.before.before.before.said2.given.1, c.before.fault-number.ensures, known.before.before.before.no-parts.ensures)
 
 returns-3 : tie.Need-returns-3
 returns-3 c =

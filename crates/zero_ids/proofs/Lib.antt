@@ -1,3 +1,0 @@
-pub mod Nonzero
-pub mod Table
-pub mod ZeroIds
