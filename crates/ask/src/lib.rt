@@ -1,4 +1,6 @@
 // The lookup that can be trusted on any bytes: absent is said only of a file that passes the check.
+#![tactic(auto)]
+
 ghost use Rattle.std.specs.Prelude.{◌≡◌};
 ghost use Rattle.class.specs.Class.{paper};
 ghost use Rattle.ask.specs.Ask.{ask_of, ask_answer, ask_body, sought_from, told_of};
@@ -8,7 +10,7 @@ use decode::reference::{Reading, Record};
 use header::Opened;
 use parse::limit::Admission;
 
-#[derive(Drop)]
+#[derive(Clone, Copy)]
 pub enum Told {
     // A record of the file has the name: where it starts, and what the check says of the whole file. Where the file does not pass, the record may
     // itself be what the damage made.
@@ -25,7 +27,7 @@ pub enum Told {
     Refused(Refusal),
 }
 
-#[derive(Drop)]
+#[derive(Clone, Copy)]
 pub enum AskAnswer {
     Done(Told),
     UnknownKind,
@@ -33,7 +35,7 @@ pub enum AskAnswer {
 }
 
 // The first record of a name.
-#[derive(Drop)]
+#[derive(Clone, Copy)]
 pub enum Sought {
     At { place: usize, found: Record },
     Nowhere,

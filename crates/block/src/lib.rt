@@ -1,4 +1,6 @@
 // Sixteen bytes at one look.
+#![tactic(auto)]
+
 ghost use Rattle.std.specs.Prelude.{◌≡◌, ◌+◌, ◌≤◌, length, take, drop};
 ghost use Rattle.block.specs.Among.{among};
 

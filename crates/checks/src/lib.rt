@@ -1,4 +1,6 @@
 // The check of a whole file: every item a record, every name greater than the one before.
+#![tactic(auto)]
+
 ghost use Rattle.std.specs.Prelude.{◌≡◌};
 ghost use Rattle.class.specs.Class.{paper};
 ghost use Rattle.checks.specs.declared.Verdict.TheVariants.{Refused};
@@ -9,7 +11,7 @@ use header::Opened;
 use parse::limit::Admission;
 
 // Why a file does not pass the check. Every function that checks a file, be it to merge it or to look up a name, hands on this value.
-#[derive(Drop)]
+#[derive(Clone, Copy)]
 pub enum Refusal {
     // A first line that begins with # but can't be read as a header: the length of its text.
     BadHeader(usize),
@@ -19,14 +21,14 @@ pub enum Refusal {
     Unsorted(usize),
 }
 
-#[derive(Drop)]
+#[derive(Clone, Copy)]
 pub enum Verdict {
     // The file passes, and has so many records.
     Clean(usize),
     Refused(Refusal),
 }
 
-#[derive(Drop)]
+#[derive(Clone, Copy)]
 pub enum CheckAnswer {
     Done(Verdict),
     UnknownKind,
@@ -109,7 +111,7 @@ fn count_before(count: usize, place: usize) -> usize
 }
 
 // What a pass that checks meets at a place.
-#[derive(Drop)]
+#[derive(Clone, Copy)]
 pub enum Turn {
     // The end of the bytes.
     End,

@@ -1,4 +1,6 @@
 // The one table of byte classes: 1 for a hex digit, 2 for a byte forbidden in a name, 4 for CR and LF, added up.
+#![tactic(auto)]
+
 ghost use Rattle.std.specs.Prelude.{◌≡◌};
 ghost use Rattle.class.specs.Class.{class_table, classes_of, is_hex, is_line_end};
 

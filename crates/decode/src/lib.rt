@@ -9,4 +9,6 @@
 //
 // A record is an id, one space, a valid name and a line end (LF or CR LF); a line that begins with ^ belongs to the
 // record before it and holds the id that a tag points at.
+#![tactic(auto)]
+
 pub mod reference;

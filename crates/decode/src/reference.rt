@@ -7,7 +7,7 @@ use parse::line::Text;
 use parse::part::Past;
 
 // The first part of a record that can't be read.
-#[derive(Drop)]
+#[derive(Clone, Copy)]
 pub enum Fault {
     Id,
     Space,
@@ -17,7 +17,7 @@ pub enum Fault {
 }
 
 // A good record, by places counted from its start: the id stands at 0, the name behind the id and one space.
-#[derive(Drop)]
+#[derive(Clone, Copy)]
 pub struct Record {
     // The name's length.
     pub name_len: usize,
@@ -27,7 +27,7 @@ pub struct Record {
     pub size: usize,
 }
 
-#[derive(Drop)]
+#[derive(Clone, Copy)]
 pub enum Reading {
     Good(Record),
     Bad(Fault),

@@ -1,4 +1,6 @@
 // One edit: kind, length of the name, name, ids in raw bytes.
+#![tactic(auto)]
+
 ghost use Rattle.std.specs.Prelude.{◌≡◌, ◌+◌, ◌<◌, leb, length};
 ghost use Rattle.class.specs.Class.{paper};
 ghost use Rattle.edit.specs.Edit.{named_edit, edit_of};
@@ -6,7 +8,7 @@ ghost use Rattle.edit.specs.Edit.{named_edit, edit_of};
 use length::Length;
 
 // Why an edit can't be taken.
-#[derive(Drop)]
+#[derive(Clone, Copy)]
 pub enum EditFault {
     // The kind is unknown, the length can't be read, or the edit is cut short.
     Malformed,
@@ -14,7 +16,7 @@ pub enum EditFault {
     BadName,
 }
 
-#[derive(Drop)]
+#[derive(Clone, Copy)]
 pub enum EditReading {
     // It takes so many bytes; `parts` has its name and its ids.
     Good(usize),

@@ -8,7 +8,7 @@ use places::name::Layout;
 use sort::twin::Twin;
 
 // The first fault of a list. The preparation and the merge hand on this value.
-#[derive(Drop)]
+#[derive(Clone, Copy)]
 pub enum ListFault {
     // The first edit that can't be taken: where it starts, and why.
     BadEdit { place: usize, fault: EditFault },
@@ -17,14 +17,14 @@ pub enum ListFault {
 }
 
 // How many edits a list has, or its first fault.
-#[derive(Drop)]
+#[derive(Clone, Copy)]
 pub enum Edits {
     Count(usize),
     Bad(ListFault),
 }
 
 // What comes of a list and an index: the index holds all edits in name order, no two of one name; or why that can't be.
-#[derive(Drop)]
+#[derive(Clone, Copy)]
 pub enum Prepared {
     // So many edits, all of different names.
     Ready(usize),

@@ -7,7 +7,7 @@ use decode::reference::{Fault, Reading, Record};
 use parse::limit::Admission;
 use search::Halved;
 
-#[derive(Drop)]
+#[derive(Clone, Copy)]
 pub enum Lookup {
     // The record of that name, and where it starts.
     Charted { place: usize, found: Record },
@@ -21,7 +21,7 @@ pub enum Lookup {
     BadName,
 }
 
-#[derive(Drop)]
+#[derive(Clone, Copy)]
 pub enum LookupAnswer {
     Done(Lookup),
     UnknownKind,

@@ -7,7 +7,7 @@ use parse::limit::Admission;
 use search::Halved;
 use start::Start;
 
-#[derive(Drop)]
+#[derive(Clone, Copy)]
 pub enum PrefixStart {
     // The place that the first step is taken from. It tells no line: the listing starts in the middle.
     From { place: usize },
@@ -15,7 +15,7 @@ pub enum PrefixStart {
     BadHeader { place: usize, text: usize },
 }
 
-#[derive(Drop)]
+#[derive(Clone, Copy)]
 pub enum PrefixStartAnswer {
     Done(PrefixStart),
     UnknownKind,

@@ -1,4 +1,6 @@
 // The header: the first line of a file, where that begins with #.
+#![tactic(auto)]
+
 ghost use Rattle.std.specs.Prelude.{◌≡◌, not, ◌+◌, eqb, drop};
 ghost use Rattle.parse.specs.Run.{span};
 ghost use Rattle.class.specs.Class.{paper};
@@ -7,14 +9,14 @@ ghost use Rattle.header.specs.Header.{header_of, all_noted, tokens, noted, first
 use parse::line::Text;
 
 // What a header says of peeled ids.
-#[derive(Drop)]
+#[derive(Clone, Copy)]
 pub enum Peeled {
     Unspecified,
     Partial,
     Fully,
 }
 
-#[derive(Drop)]
+#[derive(Clone, Copy)]
 pub struct Header {
     pub peeled: Peeled,
     pub sorted: bool,
@@ -24,14 +26,14 @@ pub struct Header {
 
 // How a file opens. Where its first byte is no # there is no header, which counts as a header that says nothing. A first line that begins with
 // # but is no header is unreadable: then the length of its text is told.
-#[derive(Drop)]
+#[derive(Clone, Copy)]
 pub enum Opened {
     Header(Header),
     Unreadable(usize),
 }
 
 // The same, with the size limit first.
-#[derive(Drop)]
+#[derive(Clone, Copy)]
 pub enum HeaderAnswer {
     Done(Opened),
     TooLarge,

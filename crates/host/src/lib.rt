@@ -2,5 +2,7 @@
 //
 // Lent bytes come as a pointer and a length, which stand for `&[u8]`. An answer comes back by value, as a struct of numbers,
 // which a crate of replies makes (`reply_file`, `reply_lookup`, `reply_loose`, `reply_merge`): here are only the names.
+#![tactic(auto)]
+
 pub mod read;
 pub mod write;

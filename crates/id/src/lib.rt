@@ -1,4 +1,6 @@
 // Ids: n hex digits, kept as they stand.
+#![tactic(auto)]
+
 ghost use Rattle.std.specs.Prelude.{◌≡◌, ◌+◌, ◌≤◌, leb, length, drop};
 ghost use Rattle.class.specs.Class.{paper, is_hex};
 ghost use Rattle.parse.specs.Run.{span};

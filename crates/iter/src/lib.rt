@@ -1,2 +1,4 @@
 // Iteration over a file's records.
+#![tactic(auto)]
+
 pub mod step;

@@ -7,7 +7,7 @@ ghost use Rattle.iter.specs.Step.{step_of, step_answer, plain_answer, prefix_ans
 use decode::reference::{Fault, Reading, Record};
 use parse::limit::Admission;
 
-#[derive(Drop)]
+#[derive(Clone, Copy)]
 pub enum Step {
     // There is no further item: the length as next place.
     End {
@@ -27,7 +27,7 @@ pub enum Step {
     },
 }
 
-#[derive(Drop)]
+#[derive(Clone, Copy)]
 pub enum StepAnswer {
     Done(Step),
     UnknownKind,

@@ -1,4 +1,6 @@
 // An iteration as one value that holds the lent bytes and its place, as `packed::Iter` does. Its step moves it on.
+#![tactic(auto)]
+
 ghost use Rattle.std.specs.Prelude.{◌≡◌};
 ghost use Rattle.iterator.specs.Next.{step_with, answer_of, stepped_from, next_iter};
 
@@ -6,7 +8,7 @@ use iter::step::{Step, StepAnswer};
 
 // The kind of the ids, the lent bytes, the prefix that names must begin with (an empty one is none), the place reached, and the
 // number of its line. With a prefix the line is not known: a step leaves 0, unless it is refused.
-#[derive(Drop)]
+#[derive(Clone, Copy)]
 pub struct Iter<'a> {
     pub kind: u32,
     pub s: &'a [u8],
@@ -16,7 +18,7 @@ pub struct Iter<'a> {
 }
 
 // What a step answers, and the place and the line number that it leaves an iteration at.
-#[derive(Drop)]
+#[derive(Clone, Copy)]
 pub struct Stepped {
     pub answer: StepAnswer,
     pub place: usize,

@@ -1,9 +1,11 @@
 // A length in groups of seven bits: how an edit says how long its name is.
+#![tactic(auto)]
+
 ghost use Rattle.std.specs.Prelude.{◌≡◌, ◌<◌};
 ghost use Rattle.length.specs.Length.{length_at};
 
 // A length and the place behind it; or bytes that are no length.
-#[derive(Drop)]
+#[derive(Clone, Copy)]
 pub enum Length {
     Of { value: usize, next: usize },
     Malformed,

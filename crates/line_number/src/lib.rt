@@ -1,4 +1,6 @@
 // The line that a place lies in: its number, and the text of it from the place on.
+#![tactic(auto)]
+
 ghost use Rattle.std.specs.Prelude.{◌≡◌, [], ◌∷◌, ◌+◌, ltb, drop};
 ghost use Rattle.parse.specs.Choice.{if};
 ghost use Rattle.line_number.specs.LineNumber.{line_feeds, line_told, at_most, until_feed};

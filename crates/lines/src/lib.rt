@@ -1,5 +1,7 @@
 // The lines of a packed file as they are written: its header, a record's line and the line of a peeled id. Each writer puts its line at a place, as far
 // as there is room, and gives the place behind it.
+#![tactic(auto)]
+
 ghost use Rattle.std.specs.Prelude.{◌≡◌, length};
 ghost use Rattle.hex_digits.specs.Hex.{hex_text};
 ghost use Rattle.put.specs.Put.{over, place_behind};

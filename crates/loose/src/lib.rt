@@ -5,6 +5,8 @@
 //
 // Either stands at the front. Behind an id anything may follow but another hex digit. Before the name there may be more
 // spaces, and it ends at the first NUL, CR or LF, or where the content ends.
+#![tactic(auto)]
+
 ghost use Rattle.std.specs.Prelude.{◌≡◌, ◌+◌, take, drop};
 ghost use Rattle.class.specs.Class.{paper, classes_of, class_table};
 ghost use Rattle.parse.specs.Run.{span};
@@ -14,7 +16,7 @@ use parse::limit::Admission;
 use parse::part::Past;
 
 // What content says.
-#[derive(Drop)]
+#[derive(Clone, Copy)]
 pub enum Loose {
     // An id of so many digits. It stands at 0.
     Id(usize),
@@ -27,7 +29,7 @@ pub enum Loose {
 }
 
 // The same for any id kind, with the kind's refusal first, then the size limit.
-#[derive(Drop)]
+#[derive(Clone, Copy)]
 pub enum LooseAnswer {
     Done(Loose),
     UnknownKind,

@@ -3,6 +3,8 @@
 // The edits are read and put in name order first (`edits`). One pass over the old file then checks it and settles for each edit which run of
 // old bytes it replaces (`runs`). From the runs it is known what the new file is, so the last refusals can be given, and the writing
 // copies old bytes between the runs as they stand (`write`).
+#![tactic(auto)]
+
 ghost use Rattle.std.specs.Prelude.{◌≡◌, ◌≤◌, length, drop};
 ghost use Rattle.class.specs.Class.{paper};
 ghost use Rattle.iter.specs.Entries.{entries_of};
@@ -22,7 +24,7 @@ use parse::limit::Admission;
 
 mod write;
 
-#[derive(Drop)]
+#[derive(Clone, Copy)]
 pub enum Merged {
     // The new file stands in the output; its length.
     Done(usize),

@@ -1,4 +1,6 @@
 // Git's rules for the name of a reference: most names are told valid by their blocks of sixteen bytes, the others in one pass over their bytes.
+#![tactic(auto)]
+
 ghost use Rattle.std.specs.Prelude.{◌≡◌, true, not, ◌&&◌, [], ◌∷◌, ℕ, ◌+◌, ◌≤◌, ◌<◌, leb, length, take};
 ghost use Rattle.class.specs.Class.{paper, classes_of};
 ghost use Rattle.compare.specs.Prefix.{begins};

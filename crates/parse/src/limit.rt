@@ -3,7 +3,7 @@ ghost use Rattle.std.specs.Prelude.{◌≡◌};
 ghost use Rattle.parse.specs.Limit.{digits_of, over_limit, admission};
 
 // How many hex digits an id of a kind has.
-#[derive(Drop)]
+#[derive(Clone, Copy)]
 pub enum IdKind {
     Digits(usize),
     Unknown,
@@ -29,7 +29,7 @@ pub fn over_limit(size: usize) -> bool
 }
 
 // What every operation asks first: the digits of an id, or the refusal.
-#[derive(Drop)]
+#[derive(Clone, Copy)]
 pub enum Admission {
     Digits(usize),
     UnknownKind,

@@ -6,7 +6,7 @@ ghost use Rattle.parse.specs.Line.{newline_at, text_len, text_at, line_len};
 use crate::part::Past;
 
 // Text that ends in a line end: where the text ends, and the place behind the line end; or no such text.
-#[derive(Drop)]
+#[derive(Clone, Copy)]
 pub enum Text {
     Ended { end: usize, next: usize },
     Unended,

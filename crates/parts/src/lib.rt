@@ -1,4 +1,6 @@
 // The parts of the edit that stands at a place of a list: its kind, its name, its id and its peeled id. No place and no bytes are refused.
+#![tactic(auto)]
+
 ghost use Rattle.std.specs.Prelude.{◌≡◌};
 ghost use Rattle.parts.specs.Parts.{edit_kind, edit_name, behind_name, edit_id, edit_peeled};
 

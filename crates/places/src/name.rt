@@ -8,7 +8,7 @@ ghost use Rattle.places.specs.Order.{comes_first};
 use compare::order::Order;
 
 // How a name is found at a place of the bytes.
-#[derive(Drop)]
+#[derive(Clone, Copy)]
 pub enum Layout {
     // An edit: kind byte, name length, name (`parts`).
     Edit,

@@ -7,7 +7,7 @@ use parse::line::Text;
 use parse::part::Past;
 
 // The length of the name, which stands behind n bytes and a space, or that there is no such shape.
-#[derive(Drop)]
+#[derive(Clone, Copy)]
 pub enum Shape {
     NameLen(usize),
     Fails,

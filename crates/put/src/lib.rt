@@ -1,5 +1,7 @@
 // Texts put into lent bytes, as far as there is room. No place is too far, and no text too long. Each function gives the place behind its text,
 // where the next one goes.
+#![tactic(auto)]
+
 ghost use Rattle.std.specs.Prelude.{◌≡◌, ◌∷◌, [], ◌-◌, min, length};
 ghost use Rattle.hex_digits.specs.Hex.{hex_text};
 ghost use Rattle.put.specs.Cr.{without_cr};

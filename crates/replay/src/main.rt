@@ -2,6 +2,8 @@
 //
 // rt holds what is printed to the file `stdout`, which has the answers that Git, the Rust and the model gave. vectors/README.md says how to read
 // both. Each line that says what is asked, and each comment, is printed as it stands.
+#![tactic(auto)]
+
 mod ask;
 mod merge;
 mod question;

@@ -1,7 +1,7 @@
 // Reading a question. Its line has a letter, the id kind, the lengths of the bytes that it lends, two numbers, and what a reader may find it by. The
 // bytes stand behind that line, and an LF behind them.
 
-#[derive(Drop)]
+#[derive(Clone, Copy)]
 pub(crate) struct Question {
     // `?` where the line is neither a question nor a comment.
     pub letter: u8,
@@ -17,7 +17,7 @@ pub(crate) struct Question {
 }
 
 // A number, and the place behind it: 0 where there is none.
-#[derive(Drop)]
+#[derive(Clone, Copy)]
 struct Decimal {
     value: u64,
     next: usize,

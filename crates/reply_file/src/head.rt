@@ -7,7 +7,7 @@ ghost use Rattle.reply_file.specs.Head.{header_reply, header_gives, peeled_numbe
 use header::{HeaderAnswer, Opened, Peeled};
 
 #[repr(C)]
-#[derive(Drop)]
+#[derive(Clone, Copy)]
 pub struct HeaderReply {
     pub number: u32,
     // 0 unspecified, 1 partial, 2 fully.

@@ -6,7 +6,7 @@ ghost use Rattle.reply_file.specs.Verdict.{check_reply, check_gives};
 use checks::{CheckAnswer, Verdict};
 
 #[repr(C)]
-#[derive(Drop)]
+#[derive(Clone, Copy)]
 pub struct CheckReply {
     pub number: u32,
     // Where the item of numbers 41 to 45 and 6 starts.

@@ -10,7 +10,7 @@ use start::{Start, StartAnswer};
 use tell::Parts;
 
 #[repr(C)]
-#[derive(Drop)]
+#[derive(Clone, Copy)]
 pub struct StartReply {
     pub number: u32,
     // Behind the header.
@@ -52,7 +52,7 @@ fn start_gives(number: u32, place: usize, line: u64, text: usize) -> StartReply
 }
 
 #[repr(C)]
-#[derive(Drop)]
+#[derive(Clone, Copy)]
 pub struct StepReply {
     pub number: u32,
     // Beside number 0: 0 the end, 1 a record, 2 an error. A refusal has 0 here, too: look at the number first.

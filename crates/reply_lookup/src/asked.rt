@@ -7,7 +7,7 @@ use ask::{AskAnswer, Told};
 use tell::Parts;
 
 #[repr(C)]
-#[derive(Drop)]
+#[derive(Clone, Copy)]
 pub struct AskReply {
     pub number: u32,
     // Where the record starts, or the item of numbers 41 to 45 and 6.

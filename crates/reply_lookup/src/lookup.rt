@@ -7,7 +7,7 @@ use find::lookup::{Lookup, LookupAnswer};
 use tell::Parts;
 
 #[repr(C)]
-#[derive(Drop)]
+#[derive(Clone, Copy)]
 pub struct LookupReply {
     pub number: u32,
     // Where the record starts that was hit, which is where its id stands: beside 0, 41 and 45.

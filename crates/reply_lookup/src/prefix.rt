@@ -6,7 +6,7 @@ ghost use Rattle.reply_lookup.specs.Prefix.{prefix_reply, prefix_gives};
 use find::prefix_start::{PrefixStart, PrefixStartAnswer};
 
 #[repr(C)]
-#[derive(Drop)]
+#[derive(Clone, Copy)]
 pub struct PrefixReply {
     pub number: u32,
     // The place that the first step is given.

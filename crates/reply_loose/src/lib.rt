@@ -1,4 +1,6 @@
 // The reply to loose content: what the content of a loose reference file says.
+#![tactic(auto)]
+
 ghost use Rattle.std.specs.Prelude.{◌≡◌};
 ghost use Rattle.loose.specs.Loose.{loose_answer};
 ghost use Rattle.reply_loose.specs.Loose.{loose_reply, loose_gives};
@@ -6,7 +8,7 @@ ghost use Rattle.reply_loose.specs.Loose.{loose_reply, loose_gives};
 use loose::{Loose, LooseAnswer};
 
 #[repr(C)]
-#[derive(Drop)]
+#[derive(Clone, Copy)]
 pub struct LooseReply {
     pub number: u32,
     // 1 an id, 2 the name of another reference, 0 beside a refusal.

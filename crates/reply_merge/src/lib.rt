@@ -1,4 +1,6 @@
 // The reply to a merge.
+#![tactic(auto)]
+
 ghost use Rattle.std.specs.Prelude.{◌≡◌, length};
 ghost use Rattle.edit.specs.Edit.{edit_fault_number};
 ghost use Rattle.merge.specs.Merge.{merge_answer, index_answer, output_after};
@@ -9,7 +11,7 @@ use edits::list::ListFault;
 use merge::Merged;
 
 #[repr(C)]
-#[derive(Drop)]
+#[derive(Clone, Copy)]
 pub struct MergeReply {
     pub number: u32,
     // Where the item of numbers 41 to 45 and 6 starts in the old file, or the edit of number 7, 8, 9 or 11 in the list.

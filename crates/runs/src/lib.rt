@@ -1,4 +1,6 @@
 // The one pass over the old records: the check, and for each edit the run of old bytes that it replaces.
+#![tactic(auto)]
+
 ghost use Rattle.std.specs.Prelude.{◌≡◌, ◌∷◌, [], ◌+◌, ◌*◌, get_or, length, drop};
 ghost use Rattle.class.specs.Class.{paper};
 ghost use Rattle.checks.specs.Check.{judge_body};

@@ -1,4 +1,6 @@
 // The search: halving over the places of a body, each probe reading the name of the record that the place lies in.
+#![tactic(auto)]
+
 ghost use Rattle.std.specs.Prelude.{◌≡◌, ◌≤◌, ◌<◌, length};
 ghost use Rattle.class.specs.Class.{paper};
 ghost use Rattle.probe.specs.RecordStart.{record_start};
@@ -8,7 +10,7 @@ use compare::order::Order;
 use probe::shape::Shape;
 
 // What halving comes to.
-#[derive(Drop)]
+#[derive(Clone, Copy)]
 pub enum Halved {
     // The start of the record whose name is the wanted one.
     Hit(usize),
@@ -17,7 +19,7 @@ pub enum Halved {
 }
 
 // What a probe says: how the name stands to the wanted one, and whether the shape failed.
-#[derive(Drop)]
+#[derive(Clone, Copy)]
 pub struct Probed {
     pub order: Order,
     pub failed: bool,

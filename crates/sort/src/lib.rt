@@ -1,4 +1,6 @@
 // A lent index of places is put in order of the names that stand there in lent bytes: in place, with no memory of its own.
+#![tactic(auto)]
+
 ghost use Rattle.std.specs.Prelude.{◌≡◌, ◌+◌, ◌*◌, ◌≤◌, ◌<◌, length};
 ghost use Rattle.sort.specs.Heap.{Heap, HeapBut, LargerChild, Moved, Down, swapped};
 ghost use Rattle.places.specs.Order.{comes_first};

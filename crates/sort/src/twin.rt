@@ -6,7 +6,7 @@ ghost use Rattle.sort.specs.Twin.{first_twin};
 use places::name::Layout;
 
 // The place of the second of two such neighbours, or that there are none.
-#[derive(Drop)]
+#[derive(Clone, Copy)]
 pub enum Twin {
     At(u32),
     Nothing,

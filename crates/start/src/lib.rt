@@ -1,4 +1,6 @@
 // Where the iteration of a whole file starts.
+#![tactic(auto)]
+
 ghost use Rattle.std.specs.Prelude.{◌≡◌};
 ghost use Rattle.class.specs.Class.{paper};
 ghost use Rattle.start.specs.Start.{start_of, start_answer, start_line};
@@ -6,7 +8,7 @@ ghost use Rattle.start.specs.Start.{start_of, start_answer, start_line};
 use header::Opened;
 use parse::limit::Admission;
 
-#[derive(Drop)]
+#[derive(Clone, Copy)]
 pub enum Start {
     // The place behind the header, and the number of the line that begins there.
     At { place: usize, line: u64 },
@@ -14,7 +16,7 @@ pub enum Start {
     BadHeader(usize),
 }
 
-#[derive(Drop)]
+#[derive(Clone, Copy)]
 pub enum StartAnswer {
     Done(Start),
     UnknownKind,

@@ -1,4 +1,6 @@
 // What several replies have in common: where a record's parts stand, and a refusal with what stands beside its number.
+#![tactic(auto)]
+
 ghost use Rattle.std.specs.Prelude.{◌≡◌, ◌≤◌};
 ghost use Rattle.decode.specs.Record.{fault_number};
 ghost use Rattle.checks.specs.Check.{refusal_number, verdict_number};
@@ -9,7 +11,7 @@ use decode::reference::{Fault, Record};
 use parse::limit::IdKind;
 
 // Where the parts of a record stand, in the bytes in which its own place is counted.
-#[derive(Drop)]
+#[derive(Clone, Copy)]
 pub struct Parts {
     pub name_at: usize,
     pub name_len: usize,
@@ -69,7 +71,7 @@ fn peeled_at(place: usize, peeled: usize) -> usize
 }
 
 // A refusal's number and what stands beside it: a place, the number of the line that begins there, the length of a text; else 0.
-#[derive(Drop)]
+#[derive(Clone, Copy)]
 pub struct Numbered {
     pub number: u32,
     pub place: usize,

@@ -1,10 +1,12 @@
 // The walk: a step that is given the line number of its place and hands on that of the next, so that a way through a whole file counts every line once.
+#![tactic(auto)]
+
 ghost use Rattle.std.specs.Prelude.{◌≡◌};
 ghost use Rattle.walker.specs.Walk.{walk_answer, feeds_of};
 
 use iter::step::{Step, StepAnswer};
 
-#[derive(Drop)]
+#[derive(Clone, Copy)]
 pub struct Walked {
     // An error tells the line number that was given.
     pub answer: StepAnswer,

@@ -1,4 +1,6 @@
 // Eight bytes at one look, read as one number.
+#![tactic(auto)]
+
 ghost use Rattle.std.specs.Prelude.{◌≡◌, [], ◌∷◌, reverse, ◌+◌, ◌≤◌, length};
 ghost use Rattle.word.specs.Number.{digits, eight, eight_at, number_at};
 ghost use Rattle.word.specs.Low.{LowDigit, first_low_at, last_low_at};
