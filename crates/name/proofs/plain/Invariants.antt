@@ -1,0 +1,16 @@
+-- `name::plain` meets its contract: as long as all were plain, the bytes passed are. Assumes nothing.
+use mathlib.Core.Path.{◌≡◌, sym, ◌∙◌}
+use mathlib.Core.Bool.{true}
+use Prim.Native.Nat.{ℕ, ◌+◌, ◌-◌, ◌≤◌, ◌<◌}
+use native.Mathlib.Omega.{arith}
+use borrow.Author.Count.{below_none, below_more}
+use borrow.Author.Rules.{rules}
+use Rattle.name.specs.Plain.{plain_at}
+use Rattle.name.proofs.Bools.{and_left, and_right}
+use Rattle.name.proofs.plain.Given as goal
+
+abbrev pub invariant-loop-k : goal.invariant-loop-k
+invariant-loop-k l = (l.k ≤ l.n) × (l.all ≡ true → (j : ℕ) → j < l.k → plain_at l.s (l.at + j) ≡ true)
+
+abbrev pub decreases-loop-k : goal.decreases-loop-k
+decreases-loop-k l = l.n - l.k

@@ -1,0 +1,6 @@
+-- `probe::start::record_start_far` meets its contract.
+use borrow.Author.Rules.{rules}
+use Rattle.probe.proofs.start.record_start_far.Goals as goal
+
+pub returns : goal.returns
+returns c = c.from_line.ensures _ c.line_start_far.ensures

@@ -1,0 +1,18 @@
+-- `put::copy` meets its contract: what is left of src, put from at + i on, makes what is wanted.
+use mathlib.Core.Path.{◌≡◌, refl, sym, ap, ◌∙◌}
+use Prim.Native.Nat.{◌+◌, ◌-◌, min}
+use native.Mathlib.Nat.{add-zero}
+use native.Mathlib.Omega.{arith}
+use lib.ListN.{length, drop, length-set}
+use Rattle.put.specs.Put.{over}
+use Rattle.put.proofs.Turns.{copy_turn, copy_end}
+use borrow.Author.Rules.{rules}
+use Rattle.put.proofs.copy.Given as goal
+
+abbrev pub invariant-loop-i : goal.invariant-loop-i
+invariant-loop-i l = (l.initial.out ≡ min (length l.n) (length l.out - l.src))
+    × (length l.out ≡ length l.at)
+    × (over l.out (l.src + l.i) (drop l.i l.n) ≡ over l.at l.src l.n)
+
+abbrev pub decreases-loop-i : goal.decreases-loop-i
+decreases-loop-i l = l.initial.out - l.i

@@ -1,0 +1,16 @@
+-- `put::digits` meets its contract: the digits of what is left of raw, put from o on, make what is wanted.
+use mathlib.Core.Path.{◌≡◌, refl, sym, ◌∙◌}
+use Prim.Native.Nat.{◌-◌}
+use lib.ListN.{length, drop}
+use Rattle.put.specs.Put.{over}
+use Rattle.hex_digits.specs.Hex.{hex_text}
+use Rattle.put.proofs.Laws.{over_beyond}
+use Rattle.put.proofs.Turns.{hex_turn, hex_end}
+use borrow.Author.Rules.{rules}
+use Rattle.put.proofs.digits.Given as goal
+
+abbrev pub invariant-loop-i : goal.invariant-loop-i
+invariant-loop-i l = (length l.out ≡ length l.at) × (over l.out l.o (hex_text (drop l.i l.initial.out)) ≡ over l.at l.raw (hex_text l.initial.out))
+
+abbrev pub decreases-loop-i : goal.decreases-loop-i
+decreases-loop-i l = length l.initial.out - l.i

@@ -1,0 +1,19 @@
+-- `put::lf` meets its contract: what is left of src, put behind what is put already, makes what is wanted.
+use mathlib.Core.Path.{◌≡◌, refl, ◌∙◌}
+use Prim.Native.Nat.{◌-◌, ◌≤◌}
+use native.Mathlib.Omega.{arith}
+use lib.ListN.{length, drop}
+use Rattle.put.specs.Put.{over, place_behind}
+use Rattle.put.specs.Cr.{without_cr}
+use Rattle.put.proofs.Turns.{piece_fits, piece_turn, piece_last}
+use borrow.Author.Rules.{rules}
+use Rattle.put.proofs.lf.Given as goal
+
+abbrev pub invariant-loop-at : goal.invariant-loop-at
+invariant-loop-at l = l.from ≤ length l.initial.out
+    × (length l.out ≡ length l.at)
+    × (over l.out l.to (without_cr (drop l.from l.initial.out)) ≡ over l.at l.src (without_cr l.initial.out))
+    × (place_behind l.to (length (without_cr (drop l.from l.initial.out))) ≡ place_behind l.src (length (without_cr l.initial.out)))
+
+abbrev pub decreases-loop-at : goal.decreases-loop-at
+decreases-loop-at l = length l.initial.out - l.from
