@@ -14,14 +14,13 @@ use Rattle.loose.proofs.Contents.{marked, unmarked}
 use Rattle.loose.proofs.read_with_digits.Goals as goal
 
 -- what the content says, at the place where its front was compared with the mark
-abbrev said : tie.After-begins-with → Loose
-said c =
-    let a = c.before.before.before.before.args in
+abbrev said-Then-not-is_valid : (c : goal.Then-not-is_valid) → Loose
+said-Then-not-is_valid c =    let a = c.args in
     loose_of paper a.n a.content.now
 
 -- behind the mark it goes by the path's validity
 behind-mark-Then-not-is_valid : (c : goal.Then-not-is_valid) → 
-    said c
+    (said-Then-not-is_valid c)
     ≡ if c.is_valid.result (Symbolic c.past_spaces-from.result (c.path_end-end.result - c.past_spaces-from.result)) BadTarget
 behind-mark-Then-not-is_valid c =    
     let a = c.args in
@@ -33,9 +32,14 @@ behind-mark-Then-not-is_valid c =
 pub returns-then-not-is_valid : goal.returns-then-not-is_valid
 returns-then-not-is_valid c = rw ((behind-mark-Then-not-is_valid c), not-true c.is_valid.result c.if-not-is_valid.true-raw)
 
+-- what the content says, at the place where its front was compared with the mark
+abbrev said-Else-not-is_valid : (c : goal.Else-not-is_valid) → Loose
+said-Else-not-is_valid c =    let a = c.args in
+    loose_of paper a.n a.content.now
+
 -- behind the mark it goes by the path's validity
 behind-mark-Else-not-is_valid : (c : goal.Else-not-is_valid) → 
-    said c
+    (said-Else-not-is_valid c)
     ≡ if c.is_valid.result (Symbolic c.past_spaces-from.result (c.path_end-end.result - c.past_spaces-from.result)) BadTarget
 behind-mark-Else-not-is_valid c =    
     let a = c.args in
@@ -47,9 +51,14 @@ behind-mark-Else-not-is_valid c =
 pub returns-then-begins_with : goal.returns-then-begins_with
 returns-then-begins_with c = rw ((behind-mark-Else-not-is_valid c), not-false c.is_valid.result c.if-not-is_valid.false-raw)
 
+-- what the content says, at the place where its front was compared with the mark
+abbrev said-Then-full_id : (c : goal.Then-full_id) → Loose
+said-Then-full_id c =    let a = c.args in
+    loose_of paper a.n a.content.now
+
 -- without the mark it goes by the id
 without-mark-Then-full_id : (c : goal.Then-full_id) → 
-    said c ≡ if c.full_id.result (Id c.args.n) Unreadable
+    (said-Then-full_id c) ≡ if c.full_id.result (Id c.args.n) Unreadable
 without-mark-Then-full_id c =    
     let a = c.args in
     let no_mark = sym c.begins_with.ensures ∙ c.if-begins_with.false in
@@ -58,9 +67,14 @@ without-mark-Then-full_id c =
 pub returns-then-full_id : goal.returns-then-full_id
 returns-then-full_id c = rw ((without-mark-Then-full_id c), c.if-full_id.true)
 
+-- what the content says, at the place where its front was compared with the mark
+abbrev said-Else-full_id : (c : goal.Else-full_id) → Loose
+said-Else-full_id c =    let a = c.args in
+    loose_of paper a.n a.content.now
+
 -- without the mark it goes by the id
 without-mark-Else-full_id : (c : goal.Else-full_id) → 
-    said c ≡ if c.full_id.result (Id c.args.n) Unreadable
+    (said-Else-full_id c) ≡ if c.full_id.result (Id c.args.n) Unreadable
 without-mark-Else-full_id c =    
     let a = c.args in
     let no_mark = sym c.begins_with.ensures ∙ c.if-begins_with.false in

@@ -10,9 +10,9 @@ use borrow.Author.Rules.{rules}
 use Rattle.put.proofs.copy.Given as goal
 
 abbrev pub invariant-loop-i : goal.invariant-loop-i
-invariant-loop-i l = (l.initial.out ≡ min (length l.n) (length l.out - l.src))
-    × (length l.out ≡ length l.at)
-    × (over l.out (l.src + l.i) (drop l.i l.n) ≡ over l.at l.src l.n)
+invariant-loop-i l = (l.n ≡ min (length l.src) (length l.out - l.at))
+    × (length l.out ≡ length l.initial.out)
+    × (over l.out (l.at + l.i) (drop l.i l.src) ≡ over l.initial.out l.at l.src)
 
 abbrev pub decreases-loop-i : goal.decreases-loop-i
-decreases-loop-i l = l.initial.out - l.i
+decreases-loop-i l = l.n - l.i

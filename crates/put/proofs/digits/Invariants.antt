@@ -10,7 +10,7 @@ use borrow.Author.Rules.{rules}
 use Rattle.put.proofs.digits.Given as goal
 
 abbrev pub invariant-loop-i : goal.invariant-loop-i
-invariant-loop-i l = (length l.out ≡ length l.at) × (over l.out l.o (hex_text (drop l.i l.initial.out)) ≡ over l.at l.raw (hex_text l.initial.out))
+invariant-loop-i l = (length l.out ≡ length l.initial.out) × (over l.out l.o (hex_text (drop l.i l.raw)) ≡ over l.initial.out l.at (hex_text l.raw))
 
 abbrev pub decreases-loop-i : goal.decreases-loop-i
-decreases-loop-i l = length l.initial.out - l.i
+decreases-loop-i l = length l.raw - l.i

@@ -10,10 +10,10 @@ use borrow.Author.Rules.{rules}
 use Rattle.put.proofs.lf.Given as goal
 
 abbrev pub invariant-loop-at : goal.invariant-loop-at
-invariant-loop-at l = l.from ≤ length l.initial.out
-    × (length l.out ≡ length l.at)
-    × (over l.out l.to (without_cr (drop l.from l.initial.out)) ≡ over l.at l.src (without_cr l.initial.out))
-    × (place_behind l.to (length (without_cr (drop l.from l.initial.out))) ≡ place_behind l.src (length (without_cr l.initial.out)))
+invariant-loop-at l = l.from ≤ length l.src
+    × (length l.out ≡ length l.initial.out)
+    × (over l.out l.to (without_cr (drop l.from l.src)) ≡ over l.initial.out l.at (without_cr l.src))
+    × (place_behind l.to (length (without_cr (drop l.from l.src))) ≡ place_behind l.at (length (without_cr l.src)))
 
 abbrev pub decreases-loop-at : goal.decreases-loop-at
-decreases-loop-at l = length l.initial.out - l.from
+decreases-loop-at l = length l.src - l.from

@@ -10,6 +10,9 @@ use Rattle.runs.proofs.Marks.{Going, begin, ends, ends_with, goes_on, settles_en
 use borrow.Author.Rules.{rules}
 use Rattle.runs.proofs.settle.Given as goal
 
+abbrev left : List ℕ → List ℕ → List ℕ → ℕ → ℕ → ℕ → List Run
+left list index name place next j = settles list name place next (drop j index)
+
 abbrev pub invariant-loop-j : goal.invariant-loop-j
 invariant-loop-j l = (length l.marks ≡ length l.initial.marks) × Going (left l.list l.index l.name l.place l.next) l.from l.initial.marks l.j l.marks
 

@@ -8,6 +8,9 @@ use Rattle.runs.proofs.Marks.{Going, begin, ends, goes_on, at_end_none, at_end_o
 use borrow.Author.Rules.{rules}
 use Rattle.runs.proofs.settle_rest.Given as goal
 
+abbrev left : List ℕ → ℕ → ℕ → List Run
+left index place j = at_end place (drop j index)
+
 abbrev pub invariant-loop-j : goal.invariant-loop-j
 invariant-loop-j l = (length l.marks ≡ length l.initial.marks) × Going (left l.index l.place) l.from l.initial.marks l.j l.marks
 

@@ -7,7 +7,7 @@ use borrow.Author.Rules.{rules}
 use Rattle.sort.proofs.descend.Given as goal
 
 abbrev pub invariant-loop-k : goal.invariant-loop-k
-invariant-loop-k l = Down (comes_first l.root l.layout) l.s l.index l.n l.initial.index l.k
+invariant-loop-k l = Down (comes_first l.layout l.s) l.initial.index l.index l.root l.n l.k
 
 abbrev pub decreases-loop-k : goal.decreases-loop-k
-decreases-loop-k l = l.initial.index - l.k
+decreases-loop-k l = l.n - l.k

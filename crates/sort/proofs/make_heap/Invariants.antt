@@ -10,7 +10,7 @@ use borrow.Author.Rules.{rules}
 use Rattle.sort.proofs.make_heap.Given as goal
 
 abbrev pub invariant-loop-root : goal.invariant-loop-root
-invariant-loop-root l = (l.root ≤ l.initial.index / 2) × Moved l.s l.index l.initial.index × Heap (comes_first l.n l.layout) l.index l.root l.initial.index
+invariant-loop-root l = (l.root ≤ l.n / 2) × Moved l.initial.index l.index l.n × Heap (comes_first l.layout l.s) l.index l.root l.n
 
 abbrev pub decreases-loop-root : goal.decreases-loop-root
 decreases-loop-root l = l.root

@@ -10,7 +10,7 @@ use borrow.Author.Rules.{rules}
 use Rattle.sort.proofs.rise.Given as goal
 
 abbrev pub invariant-loop-k : goal.invariant-loop-k
-invariant-loop-k l = Up (comes_first l.root l.layout) l.s l.index l.leaf l.initial.index l.k
+invariant-loop-k l = Up (comes_first l.layout l.s) l.initial.index l.index l.root l.n l.k
 
 abbrev pub decreases-loop-k : goal.decreases-loop-k
 decreases-loop-k l = l.k

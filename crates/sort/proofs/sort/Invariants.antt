@@ -8,7 +8,7 @@ use borrow.Author.Rules.{rules}
 use Rattle.sort.proofs.sort.Given as goal
 
 abbrev pub invariant-loop-n : goal.invariant-loop-n
-invariant-loop-n l = Emptying (comes_first l.initial.index l.layout) l.s l.index l.n
+invariant-loop-n l = Emptying (comes_first l.layout l.s) l.initial.index l.index l.n
 
 abbrev pub decreases-loop-n : goal.decreases-loop-n
 decreases-loop-n l = l.n

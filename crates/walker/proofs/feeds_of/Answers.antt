@@ -5,24 +5,17 @@ use borrow.Author.Tests.{eq-eqb, ne_eqb, lt-ltb, le-ltb}
 use borrow.Author.Rules.{rules}
 use Rattle.walker.proofs.feeds_of.Goals as goal
 
--- an error was told: the length of its text, and the next place
-abbrev text_of : tie.After-step2 → ℕ
-text_of e = e.step2.given.0.1.1.0
-
-abbrev next_of : tie.After-step2 → ℕ
-next_of e = e.step2.given.0.1.1.1.0
-
 pub returns-then-found-eq0 : goal.returns-then-found-eq0
 returns-then-found-eq0 c = rw (c.in-Good.is, eq-eqb _ _ c.if-found-eq0.true)
 
 pub returns-then-next-place : goal.returns-then-next-place
-returns-then-next-place c = rw (c.in-Error.is, le-ltb (text_of c) (next_of c - c.args.place) (omega (arith, c.if-next-place.true)))
+returns-then-next-place c = rw (c.in-Error.is, le-ltb c.in-Error.text (c.in-Error.next - c.args.place) (omega (arith, c.if-next-place.true)))
 
 pub returns-then-text-next : goal.returns-then-text-next
-returns-then-text-next c = rw (c.in-Error.is, lt-ltb (text_of c) (next_of c - c.args.place) c.if-text-next.true)
+returns-then-text-next c = rw (c.in-Error.is, lt-ltb c.in-Error.text (c.in-Error.next - c.args.place) c.if-text-next.true)
 
 pub returns-else-found-eq0 : goal.returns-else-found-eq0
 returns-else-found-eq0 c = rw (c.in-Good.is, ne_eqb _ _ c.if-found-eq0.false)
 
 pub returns-else-text-next : goal.returns-else-text-next
-returns-else-text-next c = rw (c.in-Error.is, le-ltb (text_of c) (next_of c - c.args.place) c.if-text-next.false)
+returns-else-text-next c = rw (c.in-Error.is, le-ltb c.in-Error.text (c.in-Error.next - c.args.place) c.if-text-next.false)
