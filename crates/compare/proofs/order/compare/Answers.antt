@@ -1,14 +1,14 @@
 -- `compare::order::compare` meets its contract: as long as the numbers of eight bytes are the same, the two are alike up to i; the first numbers that
 -- differ tell the order, and where none do, the lengths.
 use mathlib.Core.Path.{◌≡◌, sym, ◌∙◌}
-use Prim.Native.Nat.{◌-◌, ◌≤◌}
+use Prim.Native.Nat.{◌-◌}
 use native.Mathlib.Omega.{arith}
 use borrow.Author.Count.{below_none}
 use lib.ListN.{get_or, drop}
 use Rattle.word.specs.Number.{Bytes}
 use Rattle.compare.specs.Order.{order_of}
 use Rattle.compare.proofs.Below.{below_join}
-use Rattle.compare.proofs.ByNumber.{AlikeTo, order_behind, eight_less, eight_greater, eight_same}
+use Rattle.compare.proofs.ByNumber.{order_behind, eight_less, eight_greater, eight_same}
 use Rattle.compare.proofs.Orders.{both_end, first_ends, second_ends}
 use borrow.Author.Rules.{rules}
 use Rattle.compare.proofs.order.compare.Goals as goal
@@ -21,7 +21,7 @@ loop-i-init c = (search rules, below_none _)
 
 -- both are lists of bytes
 bytes-Then-u-v-2 : (c : goal.Then-u-v-2) → let s = c.args in Bytes s.a.now × Bytes s.b.now
-bytes-Then-u-v-2 c =    
+bytes-Then-u-v-2 c =
     (λ k. omega (arith, c.type_inv.a k), λ k. omega (arith, c.type_inv.b k))
 
 pub returns-then-u-v-2 : goal.returns-then-u-v-2
@@ -32,7 +32,7 @@ returns-then-u-v-2 c =
 
 -- both are lists of bytes
 bytes-Else-u-v-2 : (c : goal.Else-u-v-2) → let s = c.args in Bytes s.a.now × Bytes s.b.now
-bytes-Else-u-v-2 c =    
+bytes-Else-u-v-2 c =
     (λ k. omega (arith, c.type_inv.a k), λ k. omega (arith, c.type_inv.b k))
 
 pub returns-then-u-v : goal.returns-then-u-v
@@ -43,7 +43,7 @@ returns-then-u-v c =
 
 -- both are lists of bytes
 bytes-Else-u-v : (c : goal.Else-u-v) → let s = c.args in Bytes s.a.now × Bytes s.b.now
-bytes-Else-u-v c =    
+bytes-Else-u-v c =
     (λ k. omega (arith, c.type_inv.a k), λ k. omega (arith, c.type_inv.b k))
 
 pub loop-i-preserved : goal.loop-i-preserved
@@ -55,7 +55,7 @@ loop-i-preserved c =
 
 -- both are lists of bytes
 bytes-Then-p-q : (c : goal.Then-p-q) → let s = c.args in Bytes s.a.now × Bytes s.b.now
-bytes-Then-p-q c =    
+bytes-Then-p-q c =
     (λ k. omega (arith, c.type_inv.a k), λ k. omega (arith, c.type_inv.b k))
 
 -- the last eight: alike up to them, and where their numbers are the same, up to their end
@@ -68,7 +68,7 @@ returns-then-p-q c =
 
 -- both are lists of bytes
 bytes-Then-q-p : (c : goal.Then-q-p) → let s = c.args in Bytes s.a.now × Bytes s.b.now
-bytes-Then-q-p c =    
+bytes-Then-q-p c =
     (λ k. omega (arith, c.type_inv.a k), λ k. omega (arith, c.type_inv.b k))
 
 pub returns-then-q-p : goal.returns-then-q-p
@@ -80,15 +80,15 @@ returns-then-q-p c =
 
 -- both are lists of bytes
 bytes-Then-m-n : (c : goal.Then-m-n) → let s = c.args in Bytes s.a.now × Bytes s.b.now
-bytes-Then-m-n c =    
+bytes-Then-m-n c =
     (λ k. omega (arith, c.type_inv.a k), λ k. omega (arith, c.type_inv.b k))
 
 -- then what is left decides, which is nothing of the shorter one
-rest-Then-m-n : (c : goal.Then-m-n) → 
+rest-Then-m-n : (c : goal.Then-m-n) →
     let s = c.args in
     let end = c.shorter-l.result in
     order_of (drop end s.a.now) (drop end s.b.now) ≡ order_of s.a.now s.b.now
-rest-Then-m-n c =    
+rest-Then-m-n c =
     let s = c.args in
     let end = c.shorter-l.result in
     let (p, q) = (bytes-Then-m-n c) in
@@ -103,15 +103,15 @@ returns-then-m-n c =
 
 -- both are lists of bytes
 bytes-Then-n-m : (c : goal.Then-n-m) → let s = c.args in Bytes s.a.now × Bytes s.b.now
-bytes-Then-n-m c =    
+bytes-Then-n-m c =
     (λ k. omega (arith, c.type_inv.a k), λ k. omega (arith, c.type_inv.b k))
 
 -- then what is left decides, which is nothing of the shorter one
-rest-Then-n-m : (c : goal.Then-n-m) → 
+rest-Then-n-m : (c : goal.Then-n-m) →
     let s = c.args in
     let end = c.shorter-l.result in
     order_of (drop end s.a.now) (drop end s.b.now) ≡ order_of s.a.now s.b.now
-rest-Then-n-m c =    
+rest-Then-n-m c =
     let s = c.args in
     let end = c.shorter-l.result in
     let (p, q) = (bytes-Then-n-m c) in
@@ -126,15 +126,15 @@ returns-then-n-m c =
 
 -- both are lists of bytes
 bytes-Else-n-m : (c : goal.Else-n-m) → let s = c.args in Bytes s.a.now × Bytes s.b.now
-bytes-Else-n-m c =    
+bytes-Else-n-m c =
     (λ k. omega (arith, c.type_inv.a k), λ k. omega (arith, c.type_inv.b k))
 
 -- then what is left decides, which is nothing of the shorter one
-rest-Else-n-m : (c : goal.Else-n-m) → 
+rest-Else-n-m : (c : goal.Else-n-m) →
     let s = c.args in
     let end = c.shorter-l.result in
     order_of (drop end s.a.now) (drop end s.b.now) ≡ order_of s.a.now s.b.now
-rest-Else-n-m c =    
+rest-Else-n-m c =
     let s = c.args in
     let end = c.shorter-l.result in
     let (p, q) = (bytes-Else-n-m c) in
