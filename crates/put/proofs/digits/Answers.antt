@@ -20,7 +20,7 @@ returns-then-out-o c =
 pub loop-i-preserved : goal.loop-i-preserved
 loop-i-preserved c =
     let a = c.args in (
-      c.set-in-loop-i.auto.0 ∙ c.set.auto.0 ∙ c.loop-i.invariant.0,
+      c.set-in-loop-i.auto.out ∙ c.set.auto.out ∙ c.loop-i.invariant.0,
       hex_turn c.loop-i.out _ _ a.raw.now c.loop-i.o c.loop-i.i _ _
           (search rules) c.high.ensures c.low.ensures c.set.ensures c.set-in-loop-i.ensures
           ∙ c.loop-i.invariant.1,

@@ -36,4 +36,4 @@ loop-at-preserved c =
     piece_turn c.args.src.now c.loop-at.from c.next-end.result c.loop-at.invariant.0 c.next-end.ensures
     c.loop-at.out _ c.loop-at.to _ (room-Else-src-end c) c.bytes-to.ensures
     in
-    (search rules, c.bytes-to.auto.0 ∙ c.loop-at.invariant.1, t.0 ∙ c.loop-at.invariant.2, t.1 ∙ c.loop-at.invariant.3)
+    (search rules, c.bytes-to.auto.out ∙ c.loop-at.invariant.1, t.0 ∙ c.loop-at.invariant.2, t.1 ∙ c.loop-at.invariant.3)
