@@ -37,7 +37,7 @@ pub returns-in-End : goal.returns-in-End
 returns-in-End c =
     let s = (here-After-slice_known-in-End-1 c) in
     let end = marked_end s.byte s.n s.file c.args.list.now c.args.index.now s.place s.last c.loop-marks.j c.loop-marks.marks ((tells-After-slice_known-in-End-1 c) _ c.in-End.is) in
-    ((whole-After-slice_known-in-End-1 c) _ c.in-End.is, c.settle_rest.ensures ∙ sym end ∙ c.loop-marks.invariant.3)
+    record { value = (whole-After-slice_known-in-End-1 c) _ c.in-End.is; marks_after = c.settle_rest.ensures ∙ sym end ∙ c.loop-marks.invariant.3 }
 
 abbrev here-In-Refused : (c : goal.In-Refused) → Spot
 here-In-Refused c =    let a = c.args in
@@ -53,7 +53,7 @@ pub returns-in-Refused : goal.returns-in-Refused
 returns-in-Refused c =
     let told = c.in-Refused.is in
     let stop = marked_stop (here-In-Refused c) c.args.list.now c.args.index.now c.loop-marks.j c.loop-marks.marks c.in-Refused.why ((tells-In-Refused c) _ told) in
-    ((whole-In-Refused c) _ told, sym stop ∙ c.loop-marks.invariant.3)
+    record { value = (whole-In-Refused c) _ told; marks_after = sym stop ∙ c.loop-marks.invariant.3 }
 
 abbrev here-In-On : (c : goal.In-On) → Spot
 here-In-On c =    let a = c.args in
@@ -116,9 +116,9 @@ loop-marks-preserved c =
     let name_is = named_is (on-After-slice_known-in-On-1 c).0 c.name_of-last.ensures in
     let number : c.settle-j.result ≡ q.j + length ((settled-After-slice_known-in-On-1 c) (named (on-After-slice_known-in-On-1 c).0)) = c.settle-j.ensures.value ∙ ap (λ x. q.j + length ((settled-After-slice_known-in-On-1 c) x)) name_is in
     let marks = c.settle-j.ensures.marks_after ∙ ap (λ x. over q.marks (2 * q.j) (marks_of ((settled-After-slice_known-in-On-1 c) x))) name_is in (
-      omega (arith, go, q.inv.0),
-      c.settle-j.auto.1.1.1.1.1.1.0 ∙ q.inv.1,
+      omega (arith, go, q.invariant.0),
+      c.settle-j.auto.marks ∙ q.invariant.1,
       rw (add-one, name_is) ((whole-After-slice_known-in-On-1 c) _ c.in-On.is),
-      marked_on s.byte s.n s.file c.args.list.now c.args.index.now s.place s.last q.j q.marks (on-After-slice_known-in-On-1 c).0 (on-After-slice_known-in-On-1 c).1 _ name_is c.settle-j.result c.settle-j.new.1.1.1.1.1.1.0 number marks
-          ∙ q.inv.3,
+      marked_on s.byte s.n s.file c.args.list.now c.args.index.now s.place s.last q.j q.marks (on-After-slice_known-in-On-1 c).0 (on-After-slice_known-in-On-1 c).1 _ name_is c.settle-j.result c.settle-j.new.marks number marks
+          ∙ q.invariant.3,
     )
