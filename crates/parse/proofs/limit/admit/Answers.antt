@@ -1,7 +1,6 @@
 -- `parse::limit::admit` meets its contract.
 use mathlib.Core.Path.{sym, ◌∙◌}
 use Rattle.parse.specs.Limit.{admission}
-use borrow.Author.Rules.{rules}
 use Rattle.parse.proofs.limit.admit.Goals as goal
 
 pub returns-in_default : goal.returns-in_default

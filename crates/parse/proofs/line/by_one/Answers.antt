@@ -1,11 +1,8 @@
 -- `parse::line::by_one` meets its contract: the text from i on ends where the text from the start on ends.
-use mathlib.Core.Path.{◌≡◌, refl, sym, ap, ◌∙◌}
+use mathlib.Core.Path.{refl, sym, ap, ◌∙◌}
 use mathlib.Core.Bool.{not}
-use Prim.Native.Nat.{◌+◌, ◌-◌}
 use native.Mathlib.Omega.{arith}
-use lib.ListN.{length, drop}
-use Rattle.class.specs.Class.{paper, is_line_end}
-use Rattle.parse.specs.Line.{text_len}
+use Rattle.class.specs.Class.{is_line_end}
 use Rattle.parse.proofs.Runs.{span_end, span_stop, span_go}
 use borrow.Author.Rules.{rules}
 use Rattle.parse.proofs.line.by_one.Goals as goal

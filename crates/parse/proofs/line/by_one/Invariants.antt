@@ -1,13 +1,9 @@
 -- `parse::line::by_one` meets its contract: the text from i on ends where the text from the start on ends.
-use mathlib.Core.Path.{◌≡◌, refl, sym, ap, ◌∙◌}
-use mathlib.Core.Bool.{not}
+use mathlib.Core.Path.{◌≡◌}
 use Prim.Native.Nat.{◌+◌, ◌-◌}
-use native.Mathlib.Omega.{arith}
 use lib.ListN.{length, drop}
-use Rattle.class.specs.Class.{paper, is_line_end}
+use Rattle.class.specs.Class.{paper}
 use Rattle.parse.specs.Line.{text_len}
-use Rattle.parse.proofs.Runs.{span_end, span_stop, span_go}
-use borrow.Author.Rules.{rules}
 use Rattle.parse.proofs.line.by_one.Given as goal
 
 abbrev pub invariant-loop-i : goal.invariant-loop-i

@@ -1,9 +1,6 @@
 -- `parse::line::line_end` meets its contract: sixteen bytes without an LF are passed over, the rest goes byte by byte.
-use mathlib.Core.Path.{◌≡◌, refl, sym, ◌∙◌}
-use Prim.Native.Nat.{◌+◌, ◌-◌}
-use lib.ListN.{length, drop}
+use mathlib.Core.Path.{refl, sym, ◌∙◌}
 use Rattle.block.proofs.Members.{none_among}
-use Rattle.parse.specs.Line.{line_len}
 use Rattle.parse.proofs.Runs.{line_skip}
 use borrow.Author.Rules.{rules}
 use Rattle.parse.proofs.line.line_end.Goals as goal

@@ -1,12 +1,8 @@
 -- `parse::line::line_end_by_one` meets its contract: the line from i on ends where the line from the start on ends.
-use mathlib.Core.Path.{◌≡◌, refl, sym, ◌∙◌}
+use mathlib.Core.Path.{◌≡◌}
 use Prim.Native.Nat.{◌+◌, ◌-◌}
-use native.Mathlib.Omega.{arith}
-use borrow.Author.Tests.{eq-eqb, ne_eqb}
 use lib.ListN.{length, drop}
 use Rattle.parse.specs.Line.{line_len}
-use Rattle.parse.proofs.Runs.{line_end_lem, line_stop, line_go}
-use borrow.Author.Rules.{rules}
 use Rattle.parse.proofs.line.line_end_by_one.Given as goal
 
 abbrev pub invariant-loop-i : goal.invariant-loop-i

@@ -4,7 +4,6 @@ use Prim.Native.Nat.{◌+◌}
 use native.Mathlib.Omega.{arith}
 use lib.ListN.{get_or, get_or-eq_default}
 use Rattle.parse.proofs.Lines.{lf_there, crlf_there, no_line_end, no_lf_behind, beyond_end}
-use borrow.Author.Rules.{rules}
 use Rattle.parse.proofs.line.newline.Goals as goal
 
 pub returns-then-s-at : goal.returns-then-s-at

@@ -1,12 +1,10 @@
 -- `parse::line::text_end` meets its contract: the text from i on ends where the text from the start on ends.
 use mathlib.Core.Path.{◌≡◌, refl, sym, ap, ◌∙◌}
 use mathlib.Core.Bool.{Bool, true, not}
-use Prim.Native.Nat.{ℕ, ◌+◌, ◌-◌, ◌≤◌}
+use Prim.Native.Nat.{ℕ, ◌+◌, ◌≤◌}
 use native.Mathlib.Omega.{arith}
-use lib.ListN.{length, drop}
 use borrow.Author.Tests.{ne_eqb}
-use Rattle.class.specs.Class.{paper, is_line_end}
-use Rattle.parse.specs.Line.{text_len}
+use Rattle.class.specs.Class.{is_line_end}
 use Rattle.parse.proofs.Runs.{span_stop, look_left, look_skip}
 use borrow.Author.Rules.{rules}
 use Rattle.parse.proofs.line.text_end.Goals as goal

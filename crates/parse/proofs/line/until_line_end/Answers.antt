@@ -2,7 +2,6 @@
 use mathlib.Core.Path.{sym, ◌∙◌}
 use Rattle.class.specs.Class.{paper}
 use Rattle.parse.proofs.Lines.{text_ended, text_unended}
-use borrow.Author.Rules.{rules}
 use Rattle.parse.proofs.line.until_line_end.Goals as goal
 
 pub returns-in_default : goal.returns-in_default

@@ -1,7 +1,6 @@
 -- `parse::part::past_byte` meets its contract.
 use borrow.Author.Tests.{eq-eqb, ne_eqb, lt-ltb, le-ltb}
 use Rattle.parse.specs.Part.{byte_at}
-use borrow.Author.Rules.{rules}
 use Rattle.parse.proofs.part.past_byte.Goals as goal
 
 pub returns-then-s-at : goal.returns-then-s-at
