@@ -1,5 +1,6 @@
 -- `walker::walk` meets its contract: the step's answer on the line that was given, and the line feeds of what it tells.
 use mathlib.Core.Path.{◌≡◌, sym, ap, ◌∙◌}
+use mathlib.Core.List.{[]}
 use Prim.Native.Nat.{ℕ, ◌+◌}
 use Rattle.line_number.specs.LineNumber.{at_most}
 use Rattle.iter.specs.declared.step.StepAnswer.TheVariants.{Done}

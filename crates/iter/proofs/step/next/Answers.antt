@@ -1,5 +1,6 @@
 -- `iter::step::next` meets its contract: the step on the line that is counted, which is told with an error alone.
 use mathlib.Core.Path.{◌≡◌, refl, sym, ap, ◌∙◌}
+use mathlib.Core.List.{[]}
 use Rattle.line_number.specs.LineNumber.{line_told}
 use Rattle.iter.specs.declared.step.StepAnswer.{StepAnswer}
 use Rattle.iter.specs.declared.step.StepAnswer.TheVariants.{Done}
