@@ -1,4 +1,1 @@
-pub mod Fields
-pub mod Lent
-pub mod Params
 pub mod Iteration
