@@ -10,7 +10,7 @@ import re
 import sys
 
 BEGINS = re.compile(r"\s*(?:(?:abbrev|unfoldable)\s+(?:pub\s+)?|pub (?:record|data)\s+)(\S+)")
-IMPORT = re.compile(r"\s*(?:ghost )?use Rattle·(\w+?)(?:·specs)?\.specs\.(\w+)\.\{([^}]*)\}")
+IMPORT = re.compile(r"\s*(?:ghost )?use Rattle\.(\w+)\.specs\.(\w+)\.\{([^}]*)\}")
 PUBLIC = re.compile(r"(?m)^pub (?:extern \"C\" )?fn\s+\w+")
 WORD = re.compile(r"[^\s(){},;]+")
 

@@ -11,13 +11,12 @@ trap 'rm -rf "$dir"' EXIT
 "${CC:-cc}" -Wall -Wextra -Werror -std=c99 -pedantic -O1 -pthread -Iinclude tests/c_stack.c $lib -o "$dir/c_stack" || exit 1
 "$dir/c_stack" || exit 1
 
-# On another processor the archive for x86-64 is asked too, under the kit's emulator. The source is preprocessed by this machine's compiler, since the kit
-# has no C headers; what it calls of the C library has one form on both.
+# On another processor the archive for x86-64 is asked too, by what lets the kit, which is for x86-64, run there. The source is preprocessed by this
+# machine's compiler, since the kit has no C headers; what it calls of the C library has one form on both.
 [ "$(uname -m)" = x86_64 ] && exit 0
-kit=$(dirname "$(dirname "$(rt doc)")")
-own=$kit/on/$(uname -m)
-tools=$own/toolchain
+kit=$(dirname "$(rt doc)")
+tools=$kit/toolchain
 "${CC:-cc}" -std=c99 -U_FORTIFY_SOURCE -E -Iinclude tests/c_boundary.c -o "$dir/c_boundary.i" || exit 1
 "$tools/bin/clang" --target=x86_64-unknown-linux-gnu -std=c99 -O1 -fPIC -c -x cpp-output "$dir/c_boundary.i" -o "$dir/c_boundary.o" || exit 1
-"$own/bin/rattle-link" --target x86_64-unknown-linux-gnu --toolchain "$tools" -o "$dir/c_boundary_x86_64" "$dir/c_boundary.o" target/staticlib/x86_64/libhost.a || exit 1
-"$tools/bin/qemu-x86_64" "$tools/lib/ld-linux-x86-64.so.2" --library-path "$tools/lib" "$dir/c_boundary_x86_64"
+"$kit/bin/rattle-link" --target x86_64-unknown-linux-gnu --toolchain "$tools" -o "$dir/c_boundary_x86_64" "$dir/c_boundary.o" target/staticlib/x86_64/libhost.a || exit 1
+"$tools/lib/ld-linux-x86-64.so.2" --library-path "$tools/lib" "$dir/c_boundary_x86_64"

@@ -70,7 +70,7 @@ fn the_examples_of_bad_records_give_their_numbers() {
     }
 }
 
-/// What the definitions of numbers give: for each `..Number` in the crates' specs, the numbers and the other such definitions in its clauses.
+/// What the definitions of numbers give: for each `.._number` in the crates' specs, the numbers and the other such definitions in its clauses.
 fn definitions() -> BTreeMap<String, BTreeSet<String>> {
     let mut gives: BTreeMap<String, BTreeSet<String>> = BTreeMap::new();
     for dir in std::fs::read_dir(root().join("crates")).unwrap() {
@@ -80,7 +80,7 @@ fn definitions() -> BTreeMap<String, BTreeSet<String>> {
             for line in text.lines() {
                 let (Some(name), Some((_, given))) = (line.split(' ').next(), line.rsplit_once(" = ")) else { continue };
                 let first = given.split(' ').next().unwrap_or_default();
-                if name.ends_with("Number") && (first.ends_with("Number") || given.parse::<u32>().is_ok()) {
+                if name.ends_with("_number") && (first.ends_with("_number") || given.parse::<u32>().is_ok()) {
                     gives.entry(name.to_string()).or_default().insert(first.to_string());
                 }
             }

@@ -26,95 +26,78 @@ use reply_lookup::lookup::LookupReply;
 use reply_lookup::prefix::PrefixReply;
 use reply_loose::LooseReply;
 
-#[unsafe(no_mangle)]
-pub extern "C" fn packed_refs_header(file: &[u8]) -> HeaderReply
+pub fn packed_refs_header(file: &[u8]) -> HeaderReply
     ensures { result ≡ header_reply (header_answer file.now) }
 {
     reply_file::head::header_reply(file)
 }
 
 // The number alone: 0 for a valid name, 3 for another, 17.
-#[unsafe(no_mangle)]
-pub extern "C" fn packed_refs_name(name: &[u8]) -> u32
+pub fn packed_refs_name(name: &[u8]) -> u32
     ensures { result ≡ name_number name.now }
 {
     reply_file::head::name_number(name)
 }
 
-#[unsafe(no_mangle)]
-pub extern "C" fn packed_refs_start(kind: u32, file: &[u8]) -> StartReply
+pub fn packed_refs_start(kind: u32, file: &[u8]) -> StartReply
     ensures { result ≡ start_reply (start_answer kind file.now) }
 {
     reply_file::walk::start_reply(kind, file)
 }
 
 // The plain step: an error's line is counted in the bytes.
-#[unsafe(no_mangle)]
-pub extern "C" fn packed_refs_step(kind: u32, bytes: &[u8], place: usize) -> StepReply
+pub fn packed_refs_step(kind: u32, bytes: &[u8], place: usize) -> StepReply
     ensures { result ≡ step_reply kind place (plain_answer kind bytes.now place) }
 {
     reply_file::walk::step_reply(kind, bytes, place)
 }
 
 // The step that is given the line number of its place, and hands on the next.
-#[unsafe(no_mangle)]
-pub extern "C" fn packed_refs_walk(kind: u32, bytes: &[u8], place: usize, line: u64) -> StepReply
+pub fn packed_refs_walk(kind: u32, bytes: &[u8], place: usize, line: u64) -> StepReply
     ensures { result ≡ walk_reply kind place (walk_answer kind bytes.now place line) }
 {
     reply_file::walk::walk_reply(kind, bytes, place, line)
 }
 
 // The step with a prefix: an error has no line number.
-#[unsafe(no_mangle)]
-pub extern "C" fn packed_refs_step_prefix(
-    kind: u32,
-    bytes: &[u8],
-    prefix: &[u8],
-    place: usize,
-) -> StepReply
+pub fn packed_refs_step_prefix(kind: u32, bytes: &[u8], prefix: &[u8], place: usize) -> StepReply
     ensures { result ≡ step_reply kind place (prefix_answer kind prefix.now bytes.now place) }
 {
     reply_file::walk::prefix_step_reply(kind, bytes, prefix, place)
 }
 
-#[unsafe(no_mangle)]
-pub extern "C" fn packed_refs_check(kind: u32, file: &[u8]) -> CheckReply
+pub fn packed_refs_check(kind: u32, file: &[u8]) -> CheckReply
     ensures { result ≡ check_reply file.now (check_answer kind file.now) }
 {
     reply_file::verdict::check_reply(kind, file)
 }
 
 // The start of the record that a place lies in. The place alone: there is no number, so 17 is not asked, and bytes of any size are taken.
-#[unsafe(no_mangle)]
-pub extern "C" fn packed_refs_record_start(bytes: &[u8], place: usize) -> usize
+pub fn packed_refs_record_start(bytes: &[u8], place: usize) -> usize
     ensures { result ≡ record_start bytes.now place }
 {
     probe::start::record_start(bytes, place)
 }
 
-#[unsafe(no_mangle)]
-pub extern "C" fn packed_refs_lookup(kind: u32, body: &[u8], name: &[u8]) -> LookupReply
+pub fn packed_refs_lookup(kind: u32, body: &[u8], name: &[u8]) -> LookupReply
     ensures { result ≡ lookup_reply kind (lookup_answer kind body.now name.now) }
 {
     reply_lookup::lookup::lookup_reply(kind, body, name)
 }
 
-#[unsafe(no_mangle)]
-pub extern "C" fn packed_refs_prefix(kind: u32, body: &[u8], prefix: &[u8]) -> PrefixReply
+pub fn packed_refs_prefix(kind: u32, body: &[u8], prefix: &[u8]) -> PrefixReply
     ensures { result ≡ prefix_reply (prefix_start_answer kind body.now prefix.now) }
 {
     reply_lookup::prefix::prefix_reply(kind, body, prefix)
 }
 
-#[unsafe(no_mangle)]
-pub extern "C" fn packed_refs_ask(kind: u32, file: &[u8], name: &[u8]) -> AskReply
+pub fn packed_refs_ask(kind: u32, file: &[u8], name: &[u8]) -> AskReply
     ensures { result ≡ ask_reply kind file.now (ask_answer kind file.now name.now) }
 {
     reply_lookup::asked::ask_reply(kind, file, name)
 }
 
-#[unsafe(no_mangle)]
-pub extern "C" fn packed_refs_loose(kind: u32, content: &[u8]) -> LooseReply
+pub fn packed_refs_loose(kind: u32, content: &[u8]) -> LooseReply
     ensures { result ≡ loose_reply (loose_answer kind content.now) }
 {
     reply_loose::loose_reply(kind, content)

@@ -5,8 +5,7 @@ ghost use Rattle.reply_merge.specs.Merge.{merge_reply};
 
 use reply_merge::MergeReply;
 
-#[unsafe(no_mangle)]
-pub extern "C" fn packed_refs_merge(
+pub fn packed_refs_merge(
     kind: u32,
     old: &[u8],
     edits: &[u8],

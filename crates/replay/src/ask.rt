@@ -1,80 +1,87 @@
 // A question to the library that lends bytes alone, and its answer. A field that the paper does not give beside a number is not printed.
 use crate::question::Question;
 use crate::tell;
+use std::io;
 
-pub(crate) fn ask(q: Question, a: &[u8], b: &[u8]) {
+pub(crate) fn ask(rt: &impl Print, q: Question, a: &[u8], b: &[u8]) -> io::Result<()> {
     let kind = q.kind;
     let letter = q.letter;
     match letter {
-        b'h' => header(a),
-        b'n' => name(a),
-        b'i' => iteration(kind, a),
-        b't' => step(kind, a, q.first),
-        b'w' => walk(kind, a, q.first, q.second as u64),
-        b'c' => check(kind, a),
-        b's' => record_start(a, q.first),
-        b'f' => lookup(kind, a, b),
-        b'p' => prefix(kind, a, b),
-        b'a' => trusted(kind, a, b),
-        b'l' => loose(kind, a),
-        _ => tell::text(b" not a question"),
+        b'h' => header(rt, a),
+        b'n' => name(rt, a),
+        b'i' => iteration(rt, kind, a),
+        b't' => step(rt, kind, a, q.first),
+        b'w' => walk(rt, kind, a, q.first, q.second as u64),
+        b'c' => check(rt, kind, a),
+        b's' => record_start(rt, a, q.first),
+        b'f' => lookup(rt, kind, a, b),
+        b'p' => prefix(rt, kind, a, b),
+        b'a' => trusted(rt, kind, a, b),
+        b'l' => loose(rt, kind, a),
+        _ => tell::text(rt, b" not a question"),
     }
 }
 
-fn header(file: &[u8]) {
+fn header(rt: &impl Print, file: &[u8]) -> io::Result<()> {
     let r = host::read::packed_refs_header(file);
-    tell::number(r.number);
+    tell::number(rt, r.number)?;
     if r.number == 2 {
-        tell::place(r.text_len);
+        tell::place(rt, r.text_len)?;
     }
     if r.number == 0 {
-        tell::number(r.peeled);
-        tell::number(r.sorted);
-        tell::place(r.place);
+        tell::number(rt, r.peeled)?;
+        tell::number(rt, r.sorted)?;
+        tell::place(rt, r.place)?;
     }
+    Ok(())
 }
 
-fn name(name: &[u8]) {
-    tell::number(host::read::packed_refs_name(name));
+fn name(rt: &impl Print, name: &[u8]) -> io::Result<()> {
+    tell::number(rt, host::read::packed_refs_name(name))
 }
 
 // Where it begins, on which line, its items, and its end with the line that was handed on.
-fn iteration(kind: u32, file: &[u8]) {
+fn iteration(rt: &impl Print, kind: u32, file: &[u8]) -> io::Result<()> {
     let r = host::read::packed_refs_start(kind, file);
-    tell::number(r.number);
+    tell::number(rt, r.number)?;
     if r.number == 2 {
-        tell::place(r.text_len);
+        tell::place(rt, r.text_len)?;
     }
     if r.number == 0 {
-        tell::place(r.place);
-        tell::count(r.line);
-        walked(items(true, kind, file, &file[0..0], r.place, r.line));
+        tell::place(rt, r.place)?;
+        tell::count(rt, r.line)?;
+        let end = items(rt, true, kind, file, &file[0..0], r.place, r.line)?;
+        walked(rt, end)?;
     }
+    Ok(())
 }
 
 // Where it begins, its items, and its end.
-fn prefix(kind: u32, body: &[u8], prefix: &[u8]) {
+fn prefix(rt: &impl Print, kind: u32, body: &[u8], prefix: &[u8]) -> io::Result<()> {
     let r = host::read::packed_refs_prefix(kind, body, prefix);
-    tell::number(r.number);
+    tell::number(rt, r.number)?;
     if r.number == 2 {
-        tell::place(r.text_at);
-        tell::place(r.text_len);
+        tell::place(rt, r.text_at)?;
+        tell::place(rt, r.text_len)?;
     }
     if r.number == 0 {
-        tell::place(r.place);
-        item(items(false, kind, body, prefix, r.place, 0));
+        tell::place(rt, r.place)?;
+        let end = items(rt, false, kind, body, prefix, r.place, 0)?;
+        item(rt, end)?;
     }
+    Ok(())
 }
 
 // The items from a place on; the end is given back.
 fn items(
+    rt: &impl Print,
     walks: bool,
     kind: u32,
     bytes: &[u8],
     prefix: &[u8],
     from: usize,
     first: u64,
-) -> reply_file::walk::StepReply {
+) -> io::Result<reply_file::walk::StepReply> {
     let mut place = from;
     let mut line = first;
     while place < bytes.len() {
@@ -82,7 +89,7 @@ fn items(
         if r.what == 0 {
             break;
         }
-        item(r);
+        item(rt, r)?;
         // A step that stood still would be printed again and again.
         if r.next <= place {
             break;
@@ -90,7 +97,7 @@ fn items(
         place = r.next;
         line = r.next_line;
     }
-    next(walks, kind, bytes, prefix, place, line)
+    Ok(next(walks, kind, bytes, prefix, place, line))
 }
 
 // An iteration walks; a listing steps with its prefix, which may be empty, and hands on no line.
@@ -108,102 +115,111 @@ fn next(
     host::read::packed_refs_step_prefix(kind, bytes, prefix, place)
 }
 
-fn step(kind: u32, bytes: &[u8], place: usize) {
+fn step(rt: &impl Print, kind: u32, bytes: &[u8], place: usize) -> io::Result<()> {
     let r = host::read::packed_refs_step(kind, bytes, place);
-    tell::number(r.number);
+    tell::number(rt, r.number)?;
     if r.number == 0 {
-        item(r);
+        item(rt, r)?;
     }
+    Ok(())
 }
 
-fn walk(kind: u32, bytes: &[u8], place: usize, line: u64) {
+fn walk(rt: &impl Print, kind: u32, bytes: &[u8], place: usize, line: u64) -> io::Result<()> {
     let r = host::read::packed_refs_walk(kind, bytes, place, line);
-    tell::number(r.number);
+    tell::number(rt, r.number)?;
     if r.number == 0 {
-        walked(r);
+        walked(rt, r)?;
     }
+    Ok(())
 }
 
 // What a walk tells, and the line that it hands on.
-fn walked(r: reply_file::walk::StepReply) {
-    item(r);
-    tell::count(r.next_line);
+fn walked(rt: &impl Print, r: reply_file::walk::StepReply) -> io::Result<()> {
+    item(rt, r)?;
+    tell::count(rt, r.next_line)
 }
 
-fn item(r: reply_file::walk::StepReply) {
+fn item(rt: &impl Print, r: reply_file::walk::StepReply) -> io::Result<()> {
     let what = r.what;
     match what {
         0 => {
-            tell::text(b" .");
-            tell::place(r.next);
+            tell::text(rt, b" .")?;
+            tell::place(rt, r.next)
         },
         1 => {
-            tell::text(b" r");
-            record(r.start, r.name_at, r.name_len, r.peeled_at);
-            tell::place(r.next);
+            tell::text(rt, b" r")?;
+            record(rt, r.start, r.name_at, r.name_len, r.peeled_at)?;
+            tell::place(rt, r.next)
         },
         _ => {
-            tell::text(b" e");
-            tell::place(r.start);
-            tell::number(r.why);
-            tell::count(r.line);
-            tell::place(r.text_len);
-            tell::place(r.next);
+            tell::text(rt, b" e")?;
+            tell::place(rt, r.start)?;
+            tell::number(rt, r.why)?;
+            tell::count(rt, r.line)?;
+            tell::place(rt, r.text_len)?;
+            tell::place(rt, r.next)
         },
     }
 }
 
-fn record(place: usize, name_at: usize, name_len: usize, peeled_at: usize) {
-    tell::place(place);
-    tell::place(name_at);
-    tell::place(name_len);
-    tell::place(peeled_at);
+fn record(
+    rt: &impl Print,
+    place: usize,
+    name_at: usize,
+    name_len: usize,
+    peeled_at: usize,
+) -> io::Result<()> {
+    tell::place(rt, place)?;
+    tell::place(rt, name_at)?;
+    tell::place(rt, name_len)?;
+    tell::place(rt, peeled_at)
 }
 
-fn check(kind: u32, file: &[u8]) {
+fn check(rt: &impl Print, kind: u32, file: &[u8]) -> io::Result<()> {
     let r = host::read::packed_refs_check(kind, file);
     let n = r.number;
-    tell::number(n);
+    tell::number(rt, n)?;
     match n {
-        0 => tell::place(r.count),
-        _ => tell::file_refusal(n, r.place, r.line, r.text_len),
+        0 => tell::place(rt, r.count),
+        _ => tell::file_refusal(rt, n, r.place, r.line, r.text_len),
     }
 }
 
 // Here the answer is the place alone.
-fn record_start(bytes: &[u8], place: usize) {
-    tell::place(host::read::packed_refs_record_start(bytes, place));
+fn record_start(rt: &impl Print, bytes: &[u8], place: usize) -> io::Result<()> {
+    tell::place(rt, host::read::packed_refs_record_start(bytes, place))
 }
 
-fn lookup(kind: u32, body: &[u8], name: &[u8]) {
+fn lookup(rt: &impl Print, kind: u32, body: &[u8], name: &[u8]) -> io::Result<()> {
     let r = host::read::packed_refs_lookup(kind, body, name);
     let n = r.number;
-    tell::number(n);
+    tell::number(rt, n)?;
     match n {
-        0 => record(r.place, r.name_at, r.name_len, r.peeled_at),
-        _ => tell::refusal(n, r.place, 0),
+        0 => record(rt, r.place, r.name_at, r.name_len, r.peeled_at),
+        _ => tell::refusal(rt, n, r.place, 0),
     }
 }
 
-fn trusted(kind: u32, file: &[u8], name: &[u8]) {
+fn trusted(rt: &impl Print, kind: u32, file: &[u8], name: &[u8]) -> io::Result<()> {
     let r = host::read::packed_refs_ask(kind, file, name);
     let n = r.number;
-    tell::number(n);
+    tell::number(rt, n)?;
     match n {
         0 => {
-            record(r.place, r.name_at, r.name_len, r.peeled_at);
-            tell::number(r.fault);
+            record(rt, r.place, r.name_at, r.name_len, r.peeled_at)?;
+            tell::number(rt, r.fault)
         },
-        _ => tell::file_refusal(n, r.place, r.line, r.text_len),
+        _ => tell::file_refusal(rt, n, r.place, r.line, r.text_len),
     }
 }
 
-fn loose(kind: u32, content: &[u8]) {
+fn loose(rt: &impl Print, kind: u32, content: &[u8]) -> io::Result<()> {
     let r = host::read::packed_refs_loose(kind, content);
-    tell::number(r.number);
+    tell::number(rt, r.number)?;
     if r.number == 0 {
-        tell::number(r.what);
-        tell::place(r.at);
-        tell::place(r.len);
+        tell::number(rt, r.what)?;
+        tell::place(rt, r.at)?;
+        tell::place(rt, r.len)?;
     }
+    Ok(())
 }

@@ -9,64 +9,85 @@ mod merge;
 mod question;
 mod tell;
 
+ghost use Rattle.std.specs.Prelude.{◌≤◌, length, IfOk};
+
+use std::fs::File;
+use std::io;
+use std::io::Read;
+
 // The file has to leave a byte free: a full array would not show whether all of the file was read.
 fn file_space() -> [u8; 2097152] {
     [0u8; 2097152]
 }
 
 // Answers the question at a place, or passes over the comment there, and gives the place behind it.
-fn answer(file: &[u8], at: usize) -> usize {
+fn answer(rt: &impl Print, file: &[u8], at: usize) -> io::Result<usize> {
     let q = question::read(file, at);
-    tell::text(parse::part::between(file, at, q.a));
+    tell::text(rt, parse::part::between(file, at, q.a))?;
     if q.letter == b'#' {
-        return q.next;
+        return Ok(q.next);
     }
     let a = parse::part::between(file, q.a, q.b);
     let b = parse::part::between(file, q.b, q.end);
-    tell::text(b"=");
+    tell::text(rt, b"=")?;
     if q.letter == b'm' {
-        merge::merge(q, a, b);
+        merge::merge(rt, q, a, b)?;
     } else {
-        ask::ask(q, a, b);
+        ask::ask(rt, q, a, b)?;
     }
-    tell::text(b"\n");
-    q.next
+    tell::text(rt, b"\n")?;
+    Ok(q.next)
 }
 
-fn replay(file: &[u8]) {
+fn replay(rt: &impl Print, file: &[u8]) -> io::Result<()> {
     let mut at = 0;
     while at < file.len() {
-        let next = answer(file, at);
+        let next = answer(rt, file, at)?;
         // What stood still would be asked again and again.
         if next <= at {
             break;
         }
         at = next;
     }
+    Ok(())
 }
 
-fn read_and_replay(fd: i32, file: &mut [u8]) {
-    let n = io::read_full(fd, file);
-    if n == file.len() {
-        tell::text(b"questions: too long a file\n");
-        return;
+// Reads until the array is full or the input ends, and gives how many bytes it put at the start of the array.
+fn read_full(source: &mut impl Read, file: &mut [u8]) -> io::Result<usize>
+    ensures { IfOk result (λ n. n ≤ length file.new) }
+{
+    let mut done = 0;
+    while done < file.len() {
+        let n = source.read(&mut file[done..])?;
+        if n == 0 {
+            break;
+        }
+        done += n;
     }
-    replay(&file[..n]);
+    Ok(done)
+}
+
+fn read_and_replay(rt: &impl Print, source: &mut impl Read, file: &mut [u8]) -> io::Result<()> {
+    let n = read_full(source, file)?;
+    if n == file.len() {
+        return tell::text(rt, b"questions: too long a file\n");
+    }
+    replay(rt, &file[..n])
 }
 
 // An array is lent as one before it is lent as a slice, since its owner's proof would go through all its bytes otherwise.
-fn lend(fd: i32, file: &mut [u8; 2097152]) {
-    read_and_replay(fd, file);
+fn lend(rt: &impl Print, source: &mut impl Read, file: &mut [u8; 2097152]) -> io::Result<()> {
+    read_and_replay(rt, source, file)
 }
 
-fn main() {
-    let path = b"questions";
-    let fd = os::open_read(path);
-    if fd < 0 {
-        os::fail(path);
-        return;
+fn main(rt: HostRuntime) -> io::Result<()> {
+    let path = "questions";
+    match File::open(&rt, path) {
+        Ok(source) => {
+            let mut source = source;
+            let mut file = file_space();
+            lend(&rt, &mut source, &mut file)
+        },
+        Err(e) => eprintln!(rt; "{path}: {e}"),
     }
-    let mut file = file_space();
-    lend(fd, &mut file);
-    libc::close(fd);
 }

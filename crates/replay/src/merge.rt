@@ -1,6 +1,7 @@
 // A merge: its answer, the index, the new file, and whether anything else was written.
 use crate::question::Question;
 use crate::tell;
+use std::io;
 
 // What the index and the output hold before.
 const NO_PLACE: u32 = 4294967295;
@@ -15,71 +16,94 @@ fn output_space() -> [u8; 65536] {
     [UNTOUCHED; 65536]
 }
 
-pub(crate) fn merge(q: Question, old: &[u8], edits: &[u8]) {
+pub(crate) fn merge(rt: &impl Print, q: Question, old: &[u8], edits: &[u8]) -> io::Result<()> {
     let mut index = index_space();
     let mut out = output_space();
-    lend(q, old, edits, &mut index, &mut out);
+    lend(rt, q, old, edits, &mut index, &mut out)
 }
 
-fn lend(q: Question, old: &[u8], edits: &[u8], index: &mut [u32; 8192], out: &mut [u8; 65536]) {
-    cut(q, old, edits, index, out);
+fn lend(
+    rt: &impl Print,
+    q: Question,
+    old: &[u8],
+    edits: &[u8],
+    index: &mut [u32; 8192],
+    out: &mut [u8; 65536],
+) -> io::Result<()> {
+    cut(rt, q, old, edits, index, out)
 }
 
 // The index and the output have exactly the lengths that the question gives. Where there is no room for that, nothing is asked or answered.
-fn cut(q: Question, old: &[u8], edits: &[u8], index: &mut [u32], out: &mut [u8]) {
+fn cut(
+    rt: &impl Print,
+    q: Question,
+    old: &[u8],
+    edits: &[u8],
+    index: &mut [u32],
+    out: &mut [u8],
+) -> io::Result<()> {
     let i = q.first;
     let o = q.second;
     if index.len() < i {
-        return;
+        return Ok(());
     }
     if out.len() < o {
-        return;
+        return Ok(());
     }
-    write(q.kind, old, edits, &mut index[0..i], &mut out[0..o]);
+    write(rt, q.kind, old, edits, &mut index[0..i], &mut out[0..o])
 }
 
-fn write(kind: u32, old: &[u8], edits: &[u8], index: &mut [u32], out: &mut [u8]) {
+fn write(
+    rt: &impl Print,
+    kind: u32,
+    old: &[u8],
+    edits: &[u8],
+    index: &mut [u32],
+    out: &mut [u8],
+) -> io::Result<()> {
     let r = host::write::packed_refs_merge(kind, old, edits, index, out);
-    told(r);
-    entries(index);
-    written(out, r.length);
+    told(rt, r)?;
+    entries(rt, index)?;
+    written(rt, out, r.length)
 }
 
-fn told(r: reply_merge::MergeReply) {
+fn told(rt: &impl Print, r: reply_merge::MergeReply) -> io::Result<()> {
     let n = r.number;
-    tell::number(n);
+    tell::number(rt, n)?;
     match n {
-        0 => tell::place(r.length),
-        _ => tell::file_refusal(n, r.place, r.line, r.text_len),
+        0 => tell::place(rt, r.length),
+        _ => tell::file_refusal(rt, n, r.place, r.line, r.text_len),
     }
 }
 
 // The entries that were written.
-fn entries(index: &[u32]) {
-    tell::text(b" x");
+fn entries(rt: &impl Print, index: &[u32]) -> io::Result<()> {
+    tell::text(rt, b" x")?;
     let mut shown = 0;
     let mut i = 0;
     while i < index.len() {
         if index[i] != NO_PLACE {
             if shown < i {
-                tell::text(b" behind a gap");
+                tell::text(rt, b" behind a gap")?;
             }
-            tell::number(index[i]);
+            tell::number(rt, index[i])?;
             shown = i + 1;
         }
         i += 1;
     }
+    Ok(())
 }
 
 // The new file as it stands, and whether the output holds what it held behind it.
-fn written(out: &[u8], n: usize) {
+fn written(rt: &impl Print, out: &[u8], n: usize) -> io::Result<()> {
     if !is_untouched(out, n) {
-        tell::text(b" and more was written");
+        tell::text(rt, b" and more was written")?;
     }
     if 0 < n {
-        tell::text(b"\n");
-        tell::text(parse::part::between(out, 0, n));
+        tell::text(rt, b"\n")?;
+        tell::text(rt, parse::part::between(out, 0, n))?;
     }
+    Ok(())
 }
 
 fn is_untouched(out: &[u8], from: usize) -> bool {

@@ -1,41 +1,47 @@
 // Printing an answer, part by part.
-use libc::STDOUT_FILENO;
+use std::io;
 
-pub(crate) fn text(t: &[u8]) {
-    io::write_all(STDOUT_FILENO, t);
+pub(crate) fn text(rt: &impl Print, t: &[u8]) -> io::Result<()> {
+    rt.write_all(t)
 }
 
-pub(crate) fn count(n: u64) {
-    text(b" ");
-    io::print_decimal(STDOUT_FILENO, n);
+pub(crate) fn count(rt: &impl Print, n: u64) -> io::Result<()> {
+    text(rt, b" ")?;
+    rt.print(n)
 }
 
-pub(crate) fn number(n: u32) {
-    count(n as u64);
+pub(crate) fn number(rt: &impl Print, n: u32) -> io::Result<()> {
+    count(rt, n as u64)
 }
 
-pub(crate) fn place(n: usize) {
-    count(n as u64);
+pub(crate) fn place(rt: &impl Print, n: usize) -> io::Result<()> {
+    count(rt, n as u64)
 }
 
 // What stands beside the number of a refusal: beside 2 its text's length, beside these nothing, beside any other its place. So a number that is new
 // here is told with its place.
-pub(crate) fn refusal(number: u32, at: usize, text_len: usize) {
+pub(crate) fn refusal(rt: &impl Print, number: u32, at: usize, text_len: usize) -> io::Result<()> {
     match number {
-        2 => place(text_len),
-        1 | 3 | 4 | 5 | 10 | 12 | 13 | 14 | 15 | 16 | 17 => {},
-        _ => place(at),
+        2 => place(rt, text_len),
+        1 | 3 | 4 | 5 | 10 | 12 | 13 | 14 | 15 | 16 | 17 => Ok(()),
+        _ => place(rt, at),
     }
 }
 
 // The same of a file that is checked: beside 41 to 45 the number of the line behind its place, and the length of its text.
-pub(crate) fn file_refusal(number: u32, at: usize, line: u64, text_len: usize) {
-    refusal(number, at, text_len);
+pub(crate) fn file_refusal(
+    rt: &impl Print,
+    number: u32,
+    at: usize,
+    line: u64,
+    text_len: usize,
+) -> io::Result<()> {
+    refusal(rt, number, at, text_len)?;
     match number {
         41 | 42 | 43 | 44 | 45 => {
-            count(line);
-            place(text_len);
+            count(rt, line)?;
+            place(rt, text_len)
         },
-        _ => {},
+        _ => Ok(()),
     }
 }

@@ -27,10 +27,10 @@ returns-then-not-stands c =
     let a = c.args in
     sym
     (cut_short paper c.args.s.now a.from a.len a.ids c.if-len-eq0.false c.if-len-gt4096.false
-    (sym c.stands.ensures ∙ not-true _ c.if-not-stands.true-raw))
+    (sym c.stands.ensures ∙ c.if-not-stands.true))
 
 stands-Then-not-is_valid : (c : goal.Then-not-is_valid) → leb (c.args.from + c.args.len + c.args.ids) (length c.args.s.now) ≡ true
-stands-Then-not-is_valid c = sym c.stands.ensures ∙ not-false _ c.if-not-stands.false-raw
+stands-Then-not-is_valid c = sym c.stands.ensures ∙ c.if-not-stands.false
 
 valid_is-Then-not-is_valid : (c : goal.Then-not-is_valid) → valid_name paper (edit_name c.args.s.now 0) ≡ c.is_valid.result
 valid_is-Then-not-is_valid c = ap (valid_name paper) (sym c.edit_name.ensures) ∙ sym c.is_valid.ensures
@@ -40,10 +40,10 @@ returns-then-not-is_valid c =
     let a = c.args in
     sym
     (bad_name_lem paper c.args.s.now a.from a.len a.ids c.if-len-eq0.false c.if-len-gt4096.false (stands-Then-not-is_valid c)
-    ((valid_is-Then-not-is_valid c) ∙ not-true _ c.if-not-is_valid.true-raw))
+    ((valid_is-Then-not-is_valid c) ∙ c.if-not-is_valid.true))
 
 stands-Else-not-is_valid : (c : goal.Else-not-is_valid) → leb (c.args.from + c.args.len + c.args.ids) (length c.args.s.now) ≡ true
-stands-Else-not-is_valid c = sym c.stands.ensures ∙ not-false _ c.if-not-stands.false-raw
+stands-Else-not-is_valid c = sym c.stands.ensures ∙ c.if-not-stands.false
 
 inside-Else-not-is_valid : (c : goal.Else-not-is_valid) → (c.args.from + c.args.len + c.args.ids) ≤ length c.args.s.now
 inside-Else-not-is_valid c = leb-true (c.args.from + c.args.len + c.args.ids) (length c.args.s.now) (stands-Else-not-is_valid c)
@@ -62,4 +62,4 @@ returns c =
     let a = c.args in
     sym
     (good_name paper c.args.s.now a.from a.len a.ids c.if-len-eq0.false c.if-len-gt4096.false (stands-Else-not-is_valid c)
-    ((valid_is-Else-not-is_valid c) ∙ not-false _ c.if-not-is_valid.false-raw))
+    ((valid_is-Else-not-is_valid c) ∙ c.if-not-is_valid.false))

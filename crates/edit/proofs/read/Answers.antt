@@ -39,7 +39,7 @@ known-After-wide c = omega (arith, (kind_is-After-wide c), c.if-kind-gt2.false)
 
 pub overflow_mul-wide : goal.overflow_mul-wide
 overflow_mul-wide c =
-    omega (arith, (ids-After-wide c), ids_le (edit_kind c.args.s.now 0) c.args.n (known-After-wide c), c.well_formed, c.fits)
+    omega (arith, (ids-After-wide c), ids_le (edit_kind c.args.s.now 0) c.args.n (known-After-wide c), c.well_formed, c.ranges.n)
 
 kind_is-After-behind_length : (c : goal.After-behind_length) → c.edit_kind-kind.result ≡ edit_kind c.args.s.now 0
 kind_is-After-behind_length c = c.edit_kind-kind.ensures

@@ -1,12 +1,10 @@
 -- `header::first_line` meets its contract: no LF stands before i.
 use mathlib.Core.Path.{◌≡◌, sym, ap, ◌∙◌}
 use mathlib.Core.Bool.{not}
-use Prim.Native.Nat.{◌+◌, ◌-◌}
+use Prim.Native.Nat.{◌-◌}
 use native.Mathlib.Omega.{arith}
 use borrow.Author.Tests.{ne_eqb}
 use lib.Dec.{eqb}
-use lib.ListN.{length, drop}
-use Rattle.parse.specs.Run.{span}
 use Rattle.parse.proofs.Runs.{span_end, span_go}
 use Rattle.header.proofs.FirstLine.{here, cr_before, no_cr_before, no_lf}
 use borrow.Author.Rules.{rules}

@@ -1,7 +1,6 @@
 -- `header::note` meets its contract.
 use mathlib.Core.Path.{sym, ◌∙◌}
 use Rattle.header.specs.Header.{noted}
-use borrow.Author.Rules.{rules}
 use Rattle.header.proofs.note.Goals as goal
 
 pub returns-then-is_same : goal.returns-then-is_same

@@ -1,8 +1,6 @@
 -- `header::note_tokens` meets its contract: what the tokens from a place on say comes on top of what was noted.
-use mathlib.Core.Path.{◌≡◌, refl, ap, ◌∙◌}
-use Prim.Native.Nat.{◌+◌, ◌-◌, ◌≤◌}
-use lib.ListN.{length, drop}
-use Rattle.header.specs.Header.{tokens, noted, all_noted}
+use mathlib.Core.Path.{refl, ap, ◌∙◌}
+use Rattle.header.specs.Header.{noted}
 use Rattle.header.proofs.Tokens.{noted_last, noted_first}
 use borrow.Author.Rules.{rules}
 use Rattle.header.proofs.note_tokens.Goals as goal

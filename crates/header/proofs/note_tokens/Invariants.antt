@@ -1,10 +1,8 @@
 -- `header::note_tokens` meets its contract: what the tokens from a place on say comes on top of what was noted.
-use mathlib.Core.Path.{◌≡◌, refl, ap, ◌∙◌}
+use mathlib.Core.Path.{◌≡◌}
 use Prim.Native.Nat.{◌+◌, ◌-◌, ◌≤◌}
 use lib.ListN.{length, drop}
-use Rattle.header.specs.Header.{tokens, noted, all_noted}
-use Rattle.header.proofs.Tokens.{noted_last, noted_first}
-use borrow.Author.Rules.{rules}
+use Rattle.header.specs.Header.{tokens, all_noted}
 use Rattle.header.proofs.note_tokens.Given as goal
 
 abbrev pub invariant-loop-header : goal.invariant-loop-header

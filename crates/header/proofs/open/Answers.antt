@@ -3,15 +3,13 @@ use mathlib.Core.Path.{◌≡◌, sym, ap, ◌∙◌}
 use native.Mathlib.Omega.{arith}
 use borrow.Author.Tests.{not-true, not-false}
 use mathlib.Core.Bool.{true}
-use mathlib.Core.List.{List}
-use Prim.Native.Nat.{ℕ, ◌-◌}
+use Prim.Native.Nat.{◌-◌}
 use lib.ListN.{get_or, take, drop, get_or-eq_default}
-use Rattle.class.specs.Class.{Classes, paper}
+use Rattle.class.specs.Class.{paper}
 use Rattle.compare.specs.Prefix.{begins}
 use Rattle.header.specs.declared.Opened.TheVariants.{Header, Unreadable}
 use Rattle.header.specs.Header.{mark, tokens, all_noted}
 use Rattle.header.proofs.Headers.{no_hash, no_mark, no_end, header_read}
-use borrow.Author.Rules.{rules}
 use Rattle.header.proofs.open.Goals as goal
 
 pub returns-then-file-eq0 : goal.returns-then-file-eq0

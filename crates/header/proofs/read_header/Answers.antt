@@ -1,13 +1,10 @@
 -- `header::read_header` meets its contract: the size limit first, then the header.
 use mathlib.Core.Path.{◌≡◌, sym, ◌∙◌}
 use mathlib.Core.Bool.{false}
-use mathlib.Core.List.{List}
-use Prim.Native.Nat.{ℕ}
 use lib.ListN.{length}
 use Rattle.class.specs.Class.{paper}
 use Rattle.parse.specs.Limit.{over_limit}
 use Rattle.header.specs.Header.{header_of, header_answer}
-use borrow.Author.Rules.{rules}
 use Rattle.header.proofs.read_header.Goals as goal
 
 pub returns-then-over_limit : goal.returns-then-over_limit

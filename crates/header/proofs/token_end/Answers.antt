@@ -1,12 +1,9 @@
 -- `header::token_end` meets its contract: the token from i on ends where the token from the start on ends.
-use mathlib.Core.Path.{◌≡◌, refl, sym, ap, ◌∙◌}
+use mathlib.Core.Path.{refl, sym, ap, ◌∙◌}
 use mathlib.Core.Bool.{not}
-use Prim.Native.Nat.{◌+◌, ◌-◌}
 use native.Mathlib.Omega.{arith}
 use borrow.Author.Tests.{eq-eqb, ne_eqb}
 use lib.Dec.{eqb}
-use lib.ListN.{length, drop}
-use Rattle.parse.specs.Run.{span}
 use Rattle.parse.proofs.Runs.{span_end, span_stop, span_go}
 use borrow.Author.Rules.{rules}
 use Rattle.header.proofs.token_end.Goals as goal

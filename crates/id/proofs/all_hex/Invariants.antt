@@ -1,15 +1,10 @@
 -- `id::all_hex` meets its contract: behind a block of digits, the bytes that are left decide.
-use mathlib.Core.Path.{◌≡◌, refl, sym, ◌∙◌}
-use mathlib.Core.Logic.{⊎_elim}
+use mathlib.Core.Path.{◌≡◌}
 use Prim.Native.Nat.{◌+◌}
-use native.Mathlib.Omega.{arith}
-use borrow.Author.Tests.{not-true, not-false}
 use lib.Dec.{leb}
 use lib.ListN.{drop}
 use Rattle.class.specs.Class.{is_hex}
 use Rattle.parse.specs.Run.{span}
-use Rattle.id.proofs.Digits.{block_fails, block_passes}
-use borrow.Author.Rules.{rules}
 use Rattle.id.proofs.all_hex.Given as goal
 
 abbrev pub invariant-loop-left : goal.invariant-loop-left

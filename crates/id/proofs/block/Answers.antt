@@ -1,6 +1,6 @@
 -- `id::block` meets its contract: what was met so far is said of the bytes passed.
 use mathlib.Core.Path.{◌≡◌, sym, ap, ◌∙◌}
-use Prim.Native.Nat.{◌+◌, ◌-◌, ◌≤◌}
+use Prim.Native.Nat.{◌+◌}
 use lib.Dec.{leb, leb-zero}
 use lib.ListN.{drop}
 use Rattle.class.specs.Class.{is_hex}

@@ -1,12 +1,10 @@
 -- `id::block` meets its contract: what was met so far is said of the bytes passed.
-use mathlib.Core.Path.{◌≡◌, sym, ap, ◌∙◌}
-use Prim.Native.Nat.{◌+◌, ◌-◌, ◌≤◌}
-use lib.Dec.{leb, leb-zero}
+use mathlib.Core.Path.{◌≡◌}
+use Prim.Native.Nat.{◌-◌, ◌≤◌}
+use lib.Dec.{leb}
 use lib.ListN.{drop}
 use Rattle.class.specs.Class.{is_hex}
 use Rattle.parse.specs.Run.{span}
-use Rattle.id.proofs.Digits.{in_parts, one}
-use borrow.Author.Rules.{rules}
 use Rattle.id.proofs.block.Given as goal
 
 abbrev pub invariant-loop-k : goal.invariant-loop-k

@@ -7,7 +7,6 @@ use Rattle.parse.specs.declared.part.Past.TheVariants.{At}
 use Rattle.class.specs.Class.{paper, is_hex}
 use Rattle.parse.proofs.Runs.{span_le, span_end}
 use Rattle.id.proofs.Ids.{id_read, id_unread}
-use borrow.Author.Rules.{rules}
 use Rattle.id.proofs.hex_hash.Goals as goal
 
 pub returns-then-n-eq0 : goal.returns-then-n-eq0

@@ -45,4 +45,4 @@ returns c =
     let more : 128 ≤ get_or a.s.now a.at 0 = omega (arith, c.wide-low.ensures.0, c.if-low-lt128.false) in
     let value : c.wide-low.result % 128 + 128 * c.wide-high.result ≡ get_or a.s.now a.at 0 % 128 + 128 * get_or a.s.now (a.at + 1) 0 = rw (c.wide-low.ensures.0, c.wide-high.ensures.0) in
     ap (λ x. Of x (a.at + 1 + 1)) value
-    ∙ sym (two_groups a.s.now a.at (search rules) more (λ z. c.if-high-eq0.false (c.wide-high.ensures.0 ∙ z)) (omega (arith, c.wide-high.ensures.0, c.if-high-ge128.false)))
+    ∙ sym (two_groups a.s.now a.at (search rules) more (λ z. omega (arith, c.wide-high.ensures.0)) (omega (arith, c.wide-high.ensures.0)))

@@ -1,6 +1,5 @@
 -- `line_number::behind` meets its contract.
 use borrow.Author.Tests.{lt-ltb, le-ltb}
-use borrow.Author.Rules.{rules}
 use Rattle.line_number.proofs.behind.Goals as goal
 
 pub returns-then-end-len : goal.returns-then-end-len

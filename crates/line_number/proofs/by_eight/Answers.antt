@@ -1,12 +1,10 @@
 -- `line_number::by_eight` meets its contract: the text from i on ends where the text from the place on ends.
 use mathlib.Core.Path.{◌≡◌, refl, sym, ap, ◌∙◌}
 use mathlib.Core.Bool.{not}
-use Prim.Native.Nat.{◌+◌, ◌-◌}
+use Prim.Native.Nat.{◌+◌}
 use native.Mathlib.Omega.{arith}
-use lib.ListN.{length, drop}
 use borrow.Author.Tests.{eq-eqb}
 use Rattle.parse.proofs.Runs.{span_stop, look_left, look_skip}
-use Rattle.line_number.specs.LineNumber.{until_feed}
 use Rattle.line_number.proofs.Feeds.{other, high_other}
 use borrow.Author.Rules.{rules}
 use Rattle.line_number.proofs.by_eight.Goals as goal

@@ -1,12 +1,9 @@
 -- `line_number::by_one` meets its contract: the text from i on ends where the text from the place on ends.
-use mathlib.Core.Path.{◌≡◌, refl, sym, ap, ◌∙◌}
+use mathlib.Core.Path.{refl, sym, ap, ◌∙◌}
 use mathlib.Core.Bool.{not}
-use Prim.Native.Nat.{◌+◌, ◌-◌}
 use native.Mathlib.Omega.{arith}
 use borrow.Author.Tests.{eq-eqb, ne_eqb}
-use lib.ListN.{length, drop}
 use Rattle.parse.proofs.Runs.{span_end, span_stop, span_go}
-use Rattle.line_number.specs.LineNumber.{until_feed}
 use Rattle.line_number.proofs.Feeds.{other}
 use borrow.Author.Rules.{rules}
 use Rattle.line_number.proofs.by_one.Goals as goal

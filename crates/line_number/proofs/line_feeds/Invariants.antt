@@ -1,12 +1,8 @@
 -- `line_number::line_feeds` meets its contract: those counted and those from i on are all of them.
 use mathlib.Core.Path.{◌≡◌}
 use Prim.Native.Nat.{◌+◌, ◌-◌, ◌≤◌}
-use native.Mathlib.Nat.{zero-add}
-use native.Mathlib.Omega.{arith}
-use lib.ListN.{get_or, length, drop}
+use lib.ListN.{length, drop}
 use Rattle.line_number.specs.LineNumber.{line_feeds}
-use Rattle.line_number.proofs.Feeds.{feeds_end, feeds_on, feed_le}
-use borrow.Author.Rules.{rules}
 use Rattle.line_number.proofs.line_feeds.Given as goal
 
 abbrev pub invariant-loop-i : goal.invariant-loop-i

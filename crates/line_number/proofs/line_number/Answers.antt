@@ -4,7 +4,6 @@ use Prim.Native.Nat.{ℕ, ◌-◌}
 use native.Mathlib.Omega.{arith}
 use lib.ListN.{take}
 use Rattle.line_number.specs.LineNumber.{line_number, line_feeds, at_most}
-use borrow.Author.Rules.{rules}
 use Rattle.line_number.proofs.line_number.Goals as goal
 
 pub returns : goal.returns

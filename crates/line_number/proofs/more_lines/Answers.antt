@@ -5,7 +5,6 @@ use native.Mathlib.Omega.{arith}
 use borrow.Author.Tests.{le-ltb}
 use Rattle.line_number.specs.LineNumber.{at_most}
 use Rattle.line_number.proofs.Feeds.{within}
-use borrow.Author.Rules.{rules}
 use Rattle.line_number.proofs.more_lines.Goals as goal
 
 pub returns-then-lines-line : goal.returns-then-lines-line

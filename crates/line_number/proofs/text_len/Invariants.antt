@@ -1,14 +1,8 @@
 -- `line_number::text_len` meets its contract: sixteen bytes without a line feed are passed over, and the rest of the text ends where all of it does.
-use mathlib.Core.Path.{◌≡◌, refl, sym, ap, ◌∙◌}
-use mathlib.Core.Bool.{not}
+use mathlib.Core.Path.{◌≡◌}
 use Prim.Native.Nat.{◌+◌, ◌-◌}
-use native.Mathlib.Omega.{arith}
 use lib.ListN.{length, drop}
-use Rattle.block.proofs.Members.{none_among}
-use Rattle.parse.proofs.Runs.{skip}
 use Rattle.line_number.specs.LineNumber.{until_feed}
-use Rattle.line_number.proofs.Feeds.{other}
-use borrow.Author.Rules.{rules}
 use Rattle.line_number.proofs.text_len.Given as goal
 
 abbrev pub invariant-loop-i : goal.invariant-loop-i

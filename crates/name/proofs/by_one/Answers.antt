@@ -1,18 +1,15 @@
 -- `name::by_one` meets its contract. The invariant: the name is valid exactly if its bytes from i on pass, and
 -- `.lock` ends no component that ends at i or behind it. The measure is what is left of the length. Assumes nothing.
 use mathlib.Core.Path.{◌≡◌, sym, ◌∙◌}
-use mathlib.Core.Logic.{⊎_elim}
-use mathlib.Core.Bool.{false, not, ◌&&◌, and-false}
-use Prim.Native.Nat.{◌-◌}
-use borrow.Author.Rules.{rules}
+use mathlib.Core.Bool.{false, ◌&&◌, and-false}
 use borrow.Author.Tests.{not-true, not-false, ne_eqb}
 use lib.Dec.{eqb}
-use lib.ListN.{length, get_or, take, drop}
+use lib.ListN.{get_or}
 use Rattle.class.specs.Class.{classes_of}
-use Rattle.name.specs.Name.{valid_name}
-use Rattle.name.proofs.Components.{locked, lock_before, locked_at, locked_end}
-use Rattle.name.proofs.OnePass.{pass, valid_pass, pass_at, pass_end}
+use Rattle.name.proofs.Components.{lock_before, locked_at, locked_end}
+use Rattle.name.proofs.OnePass.{valid_pass, pass_at, pass_end}
 use Rattle.name.proofs.by_one.Goals as goal
+use Rattle.name.proofs.by_one.Goals.{else-b-eq47-via-then-b-eq47+else-lock_before, else-b-eq47-via-else-b-eq47}
 
 pub loop-i-init : goal.loop-i-init
 loop-i-init c = valid_pass (classes_of c.args.t.now) c.args.s.now
@@ -35,7 +32,7 @@ returns-then-lock_before c =
 unlocked-Joined-else-b-eq47 : (c : goal.Joined-else-b-eq47) → 
     let s = c.args.s.now in
     (eqb (get_or s c.loop-i.i 0) 47 && lock_before s c.loop-i.i) ≡ false
-unlocked-Joined-else-b-eq47 c = ⊎_elim (λ w. rw (sym w.1.ensures ∙ w.2.left, and-false)) (λ w. rw (ne_eqb _ _ w.left)) c.else-b-eq47.branch
+unlocked-Joined-else-b-eq47 c = elim c.else-b-eq47.branch [ else-b-eq47-via-then-b-eq47+else-lock_before w ↦ rw (sym w.lock_before.ensures ∙ w.if-lock_before.false, and-false) | else-b-eq47-via-else-b-eq47 w ↦ rw (ne_eqb _ _ w.if-b-eq47.false) ]
 
 pub loop-i-preserved : goal.loop-i-preserved
 loop-i-preserved c =

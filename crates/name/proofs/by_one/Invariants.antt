@@ -1,17 +1,13 @@
 -- `name::by_one` meets its contract. The invariant: the name is valid exactly if its bytes from i on pass, and
 -- `.lock` ends no component that ends at i or behind it. The measure is what is left of the length. Assumes nothing.
-use mathlib.Core.Path.{◌≡◌, sym, ◌∙◌}
-use mathlib.Core.Logic.{⊎_elim}
-use mathlib.Core.Bool.{false, not, ◌&&◌, and-false}
+use mathlib.Core.Path.{◌≡◌}
+use mathlib.Core.Bool.{not, ◌&&◌}
 use Prim.Native.Nat.{◌-◌}
-use borrow.Author.Rules.{rules}
-use borrow.Author.Tests.{not-true, not-false, ne_eqb}
-use lib.Dec.{eqb}
-use lib.ListN.{length, get_or, take, drop}
+use lib.ListN.{length, take, drop}
 use Rattle.class.specs.Class.{classes_of}
 use Rattle.name.specs.Name.{valid_name}
-use Rattle.name.proofs.Components.{locked, lock_before, locked_at, locked_end}
-use Rattle.name.proofs.OnePass.{pass, valid_pass, pass_at, pass_end}
+use Rattle.name.proofs.Components.{locked}
+use Rattle.name.proofs.OnePass.{pass}
 use Rattle.name.proofs.by_one.Given as goal
 
 abbrev pub invariant-loop-i : goal.invariant-loop-i

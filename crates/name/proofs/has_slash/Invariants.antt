@@ -1,9 +1,5 @@
 -- `name::has_slash` meets its contract: a slash that is met stands in the name. Assumes nothing.
-use mathlib.Core.Path.{sym, ◌∙◌}
 use Prim.Native.Nat.{◌-◌, ◌≤◌}
-use borrow.Author.Rules.{rules}
-use borrow.Author.Tests.{eq-eqb}
-use Rattle.name.proofs.Slashes.{slash_at, slash_among}
 use Rattle.name.proofs.has_slash.Given as goal
 
 abbrev pub invariant-loop-at : goal.invariant-loop-at

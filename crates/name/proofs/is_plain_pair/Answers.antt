@@ -1,5 +1,4 @@
 -- `name::is_plain_pair` meets its contract: it asks what the definition asks. Assumes nothing.
-use borrow.Author.Rules.{rules}
 use Rattle.name.specs.Plain.{plain_pair}
 use Rattle.name.proofs.is_plain_pair.Goals as goal
 

@@ -2,7 +2,6 @@
 use mathlib.Core.Path.{sym, ◌∙◌}
 use Rattle.class.proofs.Classes.{by_paper}
 use Rattle.name.specs.Name.{valid_name}
-use borrow.Author.Rules.{rules}
 use Rattle.name.proofs.is_valid.Goals as goal
 
 pub returns-then-is_plain : goal.returns-then-is_plain

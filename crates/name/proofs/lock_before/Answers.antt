@@ -3,7 +3,6 @@
 use mathlib.Core.Bool.{and-true, and-false}
 use Prim.Native.Nat.{◌-◌}
 use native.Mathlib.Omega.{arith}
-use borrow.Author.Rules.{rules}
 use borrow.Author.Tests.{le-leb, lt-leb, ne_eqb}
 use lib.ListN.{length}
 use Rattle.name.proofs.Ends.{lock_short, lock_stands}

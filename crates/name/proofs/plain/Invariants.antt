@@ -1,12 +1,8 @@
 -- `name::plain` meets its contract: as long as all were plain, the bytes passed are. Assumes nothing.
-use mathlib.Core.Path.{◌≡◌, sym, ◌∙◌}
+use mathlib.Core.Path.{◌≡◌}
 use mathlib.Core.Bool.{true}
 use Prim.Native.Nat.{ℕ, ◌+◌, ◌-◌, ◌≤◌, ◌<◌}
-use native.Mathlib.Omega.{arith}
-use borrow.Author.Count.{below_none, below_more}
-use borrow.Author.Rules.{rules}
 use Rattle.name.specs.Plain.{plain_at}
-use Rattle.name.proofs.Bools.{and_left, and_right}
 use Rattle.name.proofs.plain.Given as goal
 
 abbrev pub invariant-loop-k : goal.invariant-loop-k

@@ -1,13 +1,7 @@
 -- `name::plain_inside` meets its contract: the blocks leave no byte out. The invariant: all is plain up to i. Assumes nothing.
 use mathlib.Core.Path.{◌≡◌}
-use mathlib.Core.Bool.{true, false≢true}
+use mathlib.Core.Bool.{true}
 use Prim.Native.Nat.{ℕ, ◌-◌, ◌<◌}
-use native.Mathlib.Omega.{arith}
-use borrow.Author.Count.{below_none}
-use borrow.Author.Rules.{rules}
-use borrow.Author.Tests.{not-false}
-use lib.ListN.{length}
-use Rattle.compare.proofs.Below.{below_join}
 use Rattle.name.specs.Plain.{plain_at}
 use Rattle.name.proofs.plain_inside.Given as goal
 

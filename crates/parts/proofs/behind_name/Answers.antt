@@ -5,7 +5,6 @@ use native.Mathlib.Omega.{arith}
 use Rattle.parse.proofs.Slices.{rest_is}
 use Rattle.parts.specs.Parts.{behind_name}
 use Rattle.length.proofs.Groups.{length_small}
-use borrow.Author.Rules.{rules}
 use Rattle.parts.proofs.behind_name.Goals as goal
 
 pub returns-in_default : goal.returns-in_default

@@ -3,7 +3,6 @@ use mathlib.Core.Path.{ap, ◌∙◌}
 use Prim.Native.Nat.{◌/◌}
 use native.Mathlib.Nat.{sub-zero}
 use lib.ListN.{take}
-use borrow.Author.Rules.{rules}
 use Rattle.parts.proofs.edit_id.Goals as goal
 
 pub returns : goal.returns

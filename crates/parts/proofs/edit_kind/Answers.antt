@@ -1,7 +1,6 @@
 -- `parts::edit_kind` meets its contract.
 use mathlib.Core.Path.{sym}
 use lib.ListN.{get_or-eq_default}
-use borrow.Author.Rules.{rules}
 use Rattle.parts.proofs.edit_kind.Goals as goal
 
 pub returns-then-list-at : goal.returns-then-list-at

@@ -5,7 +5,6 @@ use native.Mathlib.Omega.{arith}
 use Rattle.length.proofs.Groups.{length_small}
 use Rattle.parts.specs.Parts.{edit_name}
 use Rattle.parts.proofs.Parts.{part_is, name_there}
-use borrow.Author.Rules.{rules}
 use Rattle.parts.proofs.edit_name.Goals as goal
 
 pub returns-in_default : goal.returns-in_default

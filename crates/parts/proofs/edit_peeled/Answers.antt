@@ -3,7 +3,6 @@ use mathlib.Core.Path.{ap, ◌∙◌}
 use Prim.Native.Nat.{◌/◌}
 use lib.ListN.{take, drop}
 use Rattle.parts.proofs.Parts.{part_is}
-use borrow.Author.Rules.{rules}
 use Rattle.parts.proofs.edit_peeled.Goals as goal
 
 pub returns : goal.returns

@@ -1,9 +1,8 @@
 -- `put::copy` meets its contract: what is left of src, put from at + i on, makes what is wanted.
-use mathlib.Core.Path.{◌≡◌, refl, sym, ap, ◌∙◌}
-use Prim.Native.Nat.{◌+◌, ◌-◌, min}
+use mathlib.Core.Path.{refl, sym, ap, ◌∙◌}
 use native.Mathlib.Nat.{add-zero}
 use native.Mathlib.Omega.{arith}
-use lib.ListN.{length, drop, length-set}
+use lib.ListN.{length-set}
 use Rattle.put.specs.Put.{over}
 use Rattle.put.proofs.Turns.{copy_turn, copy_end}
 use borrow.Author.Rules.{rules}

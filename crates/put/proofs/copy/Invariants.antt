@@ -1,12 +1,8 @@
 -- `put::copy` meets its contract: what is left of src, put from at + i on, makes what is wanted.
-use mathlib.Core.Path.{◌≡◌, refl, sym, ap, ◌∙◌}
+use mathlib.Core.Path.{◌≡◌}
 use Prim.Native.Nat.{◌+◌, ◌-◌, min}
-use native.Mathlib.Nat.{add-zero}
-use native.Mathlib.Omega.{arith}
-use lib.ListN.{length, drop, length-set}
+use lib.ListN.{length, drop}
 use Rattle.put.specs.Put.{over}
-use Rattle.put.proofs.Turns.{copy_turn, copy_end}
-use borrow.Author.Rules.{rules}
 use Rattle.put.proofs.copy.Given as goal
 
 abbrev pub invariant-loop-i : goal.invariant-loop-i

@@ -1,9 +1,5 @@
 -- `put::digits` meets its contract: the digits of what is left of raw, put from o on, make what is wanted.
-use mathlib.Core.Path.{◌≡◌, refl, sym, ◌∙◌}
-use Prim.Native.Nat.{◌-◌}
-use lib.ListN.{length, drop}
-use Rattle.put.specs.Put.{over}
-use Rattle.hex_digits.specs.Hex.{hex_text}
+use mathlib.Core.Path.{refl, sym, ◌∙◌}
 use Rattle.put.proofs.Laws.{over_beyond}
 use Rattle.put.proofs.Turns.{hex_turn, hex_end}
 use borrow.Author.Rules.{rules}
@@ -20,7 +16,7 @@ returns-then-out-o c =
 pub loop-i-preserved : goal.loop-i-preserved
 loop-i-preserved c =
     let a = c.args in (
-      c.set-in-loop-i.auto.0 ∙ c.set.auto.0 ∙ c.loop-i.invariant.0,
+      c.set-in-loop-i.auto.out ∙ c.set.auto.out ∙ c.loop-i.invariant.0,
       hex_turn c.loop-i.out _ _ a.raw.now c.loop-i.o c.loop-i.i _ _
           (search rules) c.high.ensures c.low.ensures c.set.ensures c.set-in-loop-i.ensures
           ∙ c.loop-i.invariant.1,

@@ -1,12 +1,9 @@
 -- `put::digits` meets its contract: the digits of what is left of raw, put from o on, make what is wanted.
-use mathlib.Core.Path.{◌≡◌, refl, sym, ◌∙◌}
+use mathlib.Core.Path.{◌≡◌}
 use Prim.Native.Nat.{◌-◌}
 use lib.ListN.{length, drop}
 use Rattle.put.specs.Put.{over}
 use Rattle.hex_digits.specs.Hex.{hex_text}
-use Rattle.put.proofs.Laws.{over_beyond}
-use Rattle.put.proofs.Turns.{hex_turn, hex_end}
-use borrow.Author.Rules.{rules}
 use Rattle.put.proofs.digits.Given as goal
 
 abbrev pub invariant-loop-i : goal.invariant-loop-i

@@ -2,7 +2,6 @@
 use mathlib.Core.Path.{sym, ap, ◌∙◌}
 use Rattle.hex_digits.proofs.Laws.{length_hex}
 use Rattle.put.specs.Put.{place_behind}
-use borrow.Author.Rules.{rules}
 use Rattle.put.proofs.hex.Goals as goal
 
 pub returns : goal.returns

@@ -1,10 +1,8 @@
 -- `put::lf` meets its contract: what is left of src, put behind what is put already, makes what is wanted.
-use mathlib.Core.Path.{◌≡◌, refl, ◌∙◌}
-use Prim.Native.Nat.{◌-◌, ◌≤◌}
+use mathlib.Core.Path.{refl, ◌∙◌}
+use Prim.Native.Nat.{◌≤◌}
 use native.Mathlib.Omega.{arith}
-use lib.ListN.{length, drop}
-use Rattle.put.specs.Put.{over, place_behind}
-use Rattle.put.specs.Cr.{without_cr}
+use lib.ListN.{length}
 use Rattle.put.proofs.Turns.{piece_fits, piece_turn, piece_last}
 use borrow.Author.Rules.{rules}
 use Rattle.put.proofs.lf.Goals as goal
@@ -36,4 +34,4 @@ loop-at-preserved c =
     piece_turn c.args.src.now c.loop-at.from c.next-end.result c.loop-at.invariant.0 c.next-end.ensures
     c.loop-at.out _ c.loop-at.to _ (room-Else-src-end c) c.bytes-to.ensures
     in
-    (search rules, c.bytes-to.auto.0 ∙ c.loop-at.invariant.1, t.0 ∙ c.loop-at.invariant.2, t.1 ∙ c.loop-at.invariant.3)
+    (search rules, c.bytes-to.auto.out ∙ c.loop-at.invariant.1, t.0 ∙ c.loop-at.invariant.2, t.1 ∙ c.loop-at.invariant.3)

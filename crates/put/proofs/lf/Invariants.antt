@@ -1,12 +1,9 @@
 -- `put::lf` meets its contract: what is left of src, put behind what is put already, makes what is wanted.
-use mathlib.Core.Path.{◌≡◌, refl, ◌∙◌}
+use mathlib.Core.Path.{◌≡◌}
 use Prim.Native.Nat.{◌-◌, ◌≤◌}
-use native.Mathlib.Omega.{arith}
 use lib.ListN.{length, drop}
 use Rattle.put.specs.Put.{over, place_behind}
 use Rattle.put.specs.Cr.{without_cr}
-use Rattle.put.proofs.Turns.{piece_fits, piece_turn, piece_last}
-use borrow.Author.Rules.{rules}
 use Rattle.put.proofs.lf.Given as goal
 
 abbrev pub invariant-loop-at : goal.invariant-loop-at

@@ -1,7 +1,6 @@
 -- `put::place_behind` meets its contract.
 use native.Mathlib.Omega.{arith}
 use Rattle.put.proofs.Laws.{place_behind_lem}
-use borrow.Author.Rules.{rules}
 use Rattle.put.proofs.place_behind.Goals as goal
 
 pub returns-then-at-n : goal.returns-then-at-n

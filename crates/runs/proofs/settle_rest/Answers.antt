@@ -17,8 +17,8 @@ loop-j-init c = (refl, begin _ _ _)
 pub loop-j-preserved : goal.loop-j-preserved
 loop-j-preserved c =
     let a = c.args in (
-      c.mark.auto.0 ∙ c.loop-j.invariant.0,
-      goes_on (left a.index.now a.place) a.from a.marks.now c.loop-j.j c.loop-j.marks c.loop-j.invariant.1 a.place a.place c.mark.new.0 c.mark.ensures
+      c.mark.auto.marks ∙ c.loop-j.invariant.0,
+      goes_on (left a.index.now a.place) a.from a.marks.now c.loop-j.j c.loop-j.marks c.loop-j.invariant.1 a.place a.place c.mark.new.marks c.mark.ensures
           (at_end_one a.index.now a.place c.loop-j.j (search rules)),
     )
 

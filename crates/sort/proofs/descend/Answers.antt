@@ -13,5 +13,4 @@ loop-k-init c =
 pub loop-k-preserved : goal.loop-k-preserved
 loop-k-preserved c =
     let child = c.larger_child-child in
-    let a = cbefore in
-    down_step _ a.args.index.now _ _ c.loop.index _ c.loop.k child.result c.loop.invariant child.ensures a.requires.1 c.swap.ensures
+    down_step _ c.args.index.now _ _ c.loop-k.index _ c.loop-k.k child.result c.loop-k.invariant child.ensures c.requires.1 c.swap.ensures

@@ -16,13 +16,13 @@ loop-k-init c =
 pub returns-then-not-comes_first : goal.returns-then-not-comes_first
 returns-then-not-comes_first c =
     let a = c.args in
-    let stop = sym c.comes_first.ensures ∙ not-true _ c.if-not-comes_first.true-raw in
+    let stop = sym c.comes_first.ensures ∙ c.if-not-comes_first.true in
     (up_stop (places_are_ordered a.layout a.s.now) _ _ _ _ c.loop-k.k c.loop-k.invariant ((c.loop-k.k - 1) / 2) (omega arith) stop, c.loop-k.invariant.moved)
 
 pub loop-k-preserved : goal.loop-k-preserved
 loop-k-preserved c =
     let o = places_are_ordered c.args.layout c.args.s.now in
-    let on = sym c.comes_first.ensures ∙ not-false _ c.if-not-comes_first.false-raw in
+    let on = sym c.comes_first.ensures ∙ c.if-not-comes_first.false in
     up_step o _ _ _ _ c.loop-k.k c.loop-k.invariant ((c.loop-k.k - 1) / 2) (omega arith) _ (omega arith) on c.requires.3 c.swap.ensures
 
 pub returns : goal.returns

@@ -2,7 +2,6 @@
 use mathlib.Core.Path.{sym, ap, ◌∙◌}
 use Rattle.start.specs.declared.StartAnswer.TheVariants.{Done}
 use Rattle.start.specs.Start.{start_answer}
-use borrow.Author.Rules.{rules}
 use Rattle.start.proofs.begin.Goals as goal
 
 pub returns-in-Digits : goal.returns-in-Digits

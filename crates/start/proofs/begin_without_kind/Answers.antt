@@ -2,7 +2,6 @@
 use mathlib.Core.Path.{sym, ap, ◌∙◌}
 use Rattle.start.specs.declared.Start.TheVariants.{At}
 use Rattle.start.specs.Start.{start_of}
-use borrow.Author.Rules.{rules}
 use Rattle.start.proofs.begin_without_kind.Goals as goal
 
 pub returns-in-Unreadable : goal.returns-in-Unreadable

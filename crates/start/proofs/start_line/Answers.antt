@@ -4,7 +4,6 @@ use native.Mathlib.Omega.{arith}
 use borrow.Author.Tests.{eq-eqb, ne_eqb}
 use lib.ListN.{get_or, get_or-eq_default}
 use Rattle.start.specs.Start.{start_line}
-use borrow.Author.Rules.{rules}
 use Rattle.start.proofs.start_line.Goals as goal
 
 pub returns-then-file-eq0 : goal.returns-then-file-eq0

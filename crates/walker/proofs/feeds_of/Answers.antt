@@ -1,8 +1,7 @@
 -- `walker::feeds_of` meets its contract.
-use Prim.Native.Nat.{ℕ, ◌-◌}
+use Prim.Native.Nat.{◌-◌}
 use native.Mathlib.Omega.{arith}
 use borrow.Author.Tests.{eq-eqb, ne_eqb, lt-ltb, le-ltb}
-use borrow.Author.Rules.{rules}
 use Rattle.walker.proofs.feeds_of.Goals as goal
 
 pub returns-then-found-eq0 : goal.returns-then-found-eq0

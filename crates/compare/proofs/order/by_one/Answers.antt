@@ -1,10 +1,7 @@
 -- `compare::order::by_one` meets its contract: the order from i on is the order from the start on.
-use Rattle.compare.specs.Order.{order_of}
 use Rattle.compare.proofs.Orders.{both_end, first_ends, second_ends, smaller, greater, alike}
-use mathlib.Core.Path.{◌≡◌, refl, sym, ◌∙◌}
-use Prim.Native.Nat.{◌-◌}
+use mathlib.Core.Path.{refl, sym, ◌∙◌}
 use native.Mathlib.Omega.{arith}
-use lib.ListN.{length, drop}
 use borrow.Author.Rules.{rules}
 use Rattle.compare.proofs.order.by_one.Goals as goal
 

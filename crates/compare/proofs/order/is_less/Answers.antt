@@ -1,7 +1,6 @@
 -- `compare::order::is_less` meets its contract.
 use mathlib.Core.Path.{sym, ap, ◌∙◌}
 use Rattle.compare.specs.Order.{is_less}
-use borrow.Author.Rules.{rules}
 use Rattle.compare.proofs.order.is_less.Goals as goal
 
 pub returns-in-Less : goal.returns-in-Less

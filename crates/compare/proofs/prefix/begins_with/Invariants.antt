@@ -1,10 +1,8 @@
 -- `compare::prefix::begins_with` meets its contract: what is left to compare from i on decides the whole.
-use mathlib.Core.Path.{◌≡◌, refl, sym, ◌∙◌}
+use mathlib.Core.Path.{◌≡◌}
 use Prim.Native.Nat.{◌-◌, ◌≤◌}
 use lib.ListN.{length, drop}
 use Rattle.compare.specs.Prefix.{begins}
-use Rattle.compare.proofs.Prefixes.{too_long, all_passed, differs, agrees}
-use borrow.Author.Rules.{rules}
 use Rattle.compare.proofs.prefix.begins_with.Given as goal
 
 abbrev pub invariant-loop-i : goal.invariant-loop-i

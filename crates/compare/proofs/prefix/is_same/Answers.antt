@@ -1,7 +1,6 @@
 -- `compare::prefix::is_same` meets its contract.
 use mathlib.Core.Path.{sym, ◌∙◌}
 use Rattle.compare.proofs.Prefixes.{same_length, other_length}
-use borrow.Author.Rules.{rules}
 use Rattle.compare.proofs.prefix.is_same.Goals as goal
 
 pub returns-then-s-other : goal.returns-then-s-other

@@ -7,7 +7,7 @@ use lib.ListN.{take, drop}
 use borrow.Author.Tests.{not-true, not-false}
 use Rattle.parse.specs.declared.part.Past.TheVariants.{At, Unread}
 use Rattle.parse.specs.declared.line.Text.TheVariants.{Ended}
-use Rattle.class.specs.Class.{Classes, paper}
+use Rattle.class.specs.Class.{paper}
 use Rattle.parse.specs.Part.{byte_at}
 use Rattle.id.specs.Id.{id_at}
 use Rattle.parse.specs.Line.{newline_at, text_at}
@@ -17,7 +17,6 @@ use Rattle.decode.specs.declared.reference.Fault.TheVariants.{Peeled}
 use Rattle.decode.specs.declared.reference.Reading.TheVariants.{Good, Bad}
 use Rattle.decode.specs.Record.{record_of}
 use Rattle.decode.proofs.Parts.{no_id, no_space, no_line_end, no_name, plain_record, no_peeled_id, no_peeled_end, peeled_record}
-use borrow.Author.Rules.{rules}
 use Rattle.decode.proofs.reference.reference.Goals as goal
 
 pub returns-in_default : goal.returns-in_default

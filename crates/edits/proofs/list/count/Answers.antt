@@ -3,10 +3,11 @@ use mathlib.Core.Path.{◌≡◌, refl, sym, ap, ◌∙◌}
 use mathlib.Core.List.{List}
 use Prim.Native.Nat.{ℕ, suc, ◌+◌, ◌-◌, ◌≤◌, ◌<◌}
 use native.Mathlib.Omega.{arith}
-use lib.ListN.{length, drop}
-use Rattle.class.specs.Class.{Classes, paper}
+use lib.ListN.{length, take, drop}
+use Rattle.class.specs.Class.{paper}
 use Rattle.parse.proofs.Slices.{rest_is}
-use Rattle.edit.specs.declared.EditReading.TheVariants.{Good}
+use Rattle.edit.specs.declared.EditReading.{EditReading}
+use Rattle.edit.specs.declared.EditReading.TheVariants.{Good, Bad}
 use Rattle.edits.specs.declared.list.Edits.TheVariants.{Count}
 use Rattle.edit.specs.Edit.{edit_of}
 use Rattle.edits.specs.List.{Listed, edits_from, edits_of, counted}
@@ -15,71 +16,70 @@ use Rattle.edits.proofs.Lists.{from_end, from_many, from_bad, from_good, counted
 use borrow.Author.Rules.{rules}
 use Rattle.edits.proofs.list.count.Goals as goal
 
+-- what the list is from a place on decides the whole
+decides : (n : ℕ) (list : List ℕ) (count place : ℕ) {x : Listed}
+    → counted count (edits_from paper n list (4096 - count) place) ≡ counted 0 (edits_of paper n list)
+    → edits_from paper n list (4096 - count) place ≡ x → counted count x ≡ counted 0 (edits_of paper n list)
+decides n list count place h e = sym (ap (counted count) e) ∙ h
+
+-- one turn is taken of those that are left
+fewer : (n : ℕ) (list : List ℕ) (count place : ℕ) → count < 4096
+    → edits_from paper n list (4096 - count) place ≡ edits_from paper n list (suc (4096 - (count + 1))) place
+fewer n list count place h =
+    let z : 4096 - count ≡ suc (4096 - (count + 1)) = omega arith in
+    ap (λ k. edits_from paper n list k place) z
+
+-- what is read from a place on is the edit that stands there
+is_read : (n : ℕ) (list : List ℕ) (place : ℕ) {r : EditReading} → r ≡ edit_of paper n (take (length list - place) (drop place list))
+    → edit_of paper n (drop place list) ≡ r
+is_read n list place e = ap (edit_of paper n) (sym (rest_is list place)) ∙ sym e
+
 pub loop-place-init : goal.loop-place-init
 unfolding edits_of
 loop-place-init c = (search rules, refl)
 
--- what the list is from the place on decides the whole
-decides-Then-count-ge4096 : (c : goal.Then-count-ge4096) → {x : Listed} → edits_from paper c.args.n c.args.list.now (4096 - c.loop-place.count) c.loop-place.place ≡ x → counted c.loop-place.count x ≡ counted 0 (edits_of paper c.args.n c.args.list.now)
-decides-Then-count-ge4096 c e = sym (ap (counted c.loop-place.count) e) ∙ c.loop-place.invariant.1
-
 pub returns-then-count-ge4096 : goal.returns-then-count-ge4096
 returns-then-count-ge4096 c =
     let z : 4096 - c.loop-place.count ≡ 0 = omega arith in
-    (decides-Then-count-ge4096 c) (ap (λ k. edits_from paper c.args.n c.args.list.now k c.loop-place.place) z ∙ from_many paper c.args.n c.args.list.now c.loop-place.place (search rules))
-
-is_read-In-Good : (c : goal.In-Good) → edit_of paper c.args.n (drop c.loop-place.place c.args.list.now) ≡ c.read.result
-is_read-In-Good c = ap (edit_of paper c.args.n) (sym (rest_is c.args.list.now c.loop-place.place)) ∙ sym c.read.ensures
-
-is_edit-In-Good : (c : goal.In-Good) → edit_of paper c.args.n (drop c.loop-place.place c.args.list.now) ≡ Good c.in-Good.size
-is_edit-In-Good c = (is_read-In-Good c) ∙ c.in-Good.is
-
-goes_on-In-Good : (c : goal.In-Good) → (c.loop-place.place < c.loop-place.place + c.in-Good.size) × (c.loop-place.place + c.in-Good.size ≤ length c.args.list.now)
-goes_on-In-Good c = edit_goes_on paper c.args.n c.args.list.now c.loop-place.place c.in-Good.size (is_edit-In-Good c)
+    decides c.args.n c.args.list.now c.loop-place.count c.loop-place.place c.loop-place.invariant.1
+    (ap (λ k. edits_from paper c.args.n c.args.list.now k c.loop-place.place) z ∙ from_many paper c.args.n c.args.list.now c.loop-place.place (search rules))
 
 pub overflow_add-place : goal.overflow_add-place
-overflow_add-place c = omega (arith, (goes_on-In-Good c), c.well_formed)
+overflow_add-place c =
+    let is_edit = is_read c.args.n c.args.list.now c.loop-place.place c.read.ensures ∙ c.in-Good.is in
+    omega (arith, edit_goes_on paper c.args.n c.args.list.now c.loop-place.place c.in-Good.size is_edit, c.well_formed)
 
 pub loop-place-smaller : goal.loop-place-smaller
-loop-place-smaller c = omega (arith, (goes_on-In-Good c))
-
--- what the list is from the place on decides the whole
-decides-In-Good : (c : goal.In-Good) → {x : Listed} → edits_from paper c.args.n c.args.list.now (4096 - c.loop-place.count) c.loop-place.place ≡ x → counted c.loop-place.count x ≡ counted 0 (edits_of paper c.args.n c.args.list.now)
-decides-In-Good c e = sym (ap (counted c.loop-place.count) e) ∙ c.loop-place.invariant.1
-
-fewer-In-Good : (c : goal.In-Good) → edits_from paper c.args.n c.args.list.now (4096 - c.loop-place.count) c.loop-place.place ≡ edits_from paper c.args.n c.args.list.now (suc (4096 - (c.loop-place.count + 1))) c.loop-place.place
-fewer-In-Good c = let z : 4096 - c.loop-place.count ≡ suc (4096 - (c.loop-place.count + 1)) = omega arith in ap (λ c. edits_from paper c.args.n c.args.list.now c c.loop-place.place) z
-
-inside-In-Good : (c : goal.In-Good) → c.loop-place.place < length c.args.list.now
-inside-In-Good c = search rules
+loop-place-smaller c =
+    let is_edit = is_read c.args.n c.args.list.now c.loop-place.place c.read.ensures ∙ c.in-Good.is in
+    omega (arith, edit_goes_on paper c.args.n c.args.list.now c.loop-place.place c.in-Good.size is_edit)
 
 pub loop-place-preserved : goal.loop-place-preserved
 loop-place-preserved c =
-    let on = counted_onto c.loop-place.count c.loop-place.place (edits_from paper c.args.n c.args.list.now ((4096 - (c.loop-place.count + 1))) (c.loop-place.place + c.in-Good.size)) in
-    (search rules, sym on ∙ (decides-In-Good c) ((fewer-In-Good c) ∙ from_good paper c.args.n c.args.list.now c.loop-place.place (inside-In-Good c) ((4096 - (c.loop-place.count + 1))) c.in-Good.size (is_edit-In-Good c)))
-
--- what the list is from the place on decides the whole
-decides-In-Bad : (c : goal.In-Bad) → {x : Listed} → edits_from paper c.args.n c.args.list.now (4096 - c.loop-place.count) c.loop-place.place ≡ x → counted c.loop-place.count x ≡ counted 0 (edits_of paper c.args.n c.args.list.now)
-decides-In-Bad c e = sym (ap (counted c.loop-place.count) e) ∙ c.loop-place.invariant.1
-
-fewer-In-Bad : (c : goal.In-Bad) → edits_from paper c.args.n c.args.list.now (4096 - c.loop-place.count) c.loop-place.place ≡ edits_from paper c.args.n c.args.list.now (suc (4096 - (c.loop-place.count + 1))) c.loop-place.place
-fewer-In-Bad c = let z : 4096 - c.loop-place.count ≡ suc (4096 - (c.loop-place.count + 1)) = omega arith in ap (λ c. edits_from paper c.args.n c.args.list.now c c.loop-place.place) z
-
-inside-In-Bad : (c : goal.In-Bad) → c.loop-place.place < length c.args.list.now
-inside-In-Bad c = search rules
-
-is_read-In-Bad : (c : goal.In-Bad) → edit_of paper c.args.n (drop c.loop-place.place c.args.list.now) ≡ c.read.result
-is_read-In-Bad c = ap (edit_of paper c.args.n) (sym (rest_is c.args.list.now c.loop-place.place)) ∙ sym c.read.ensures
+    let n = c.args.n in
+    let list = c.args.list.now in
+    let place = c.loop-place.place in
+    let count = c.loop-place.count in
+    let size = c.in-Good.size in
+    let turns = 4096 - (count + 1) in
+    let is_edit = is_read n list place c.read.ensures ∙ c.in-Good.is in
+    let on = counted_onto count place (edits_from paper n list turns (place + size)) in
+    let here = fewer n list count place c.if-count-ge4096.false ∙ from_good paper n list place c.loop-place-test.true turns size is_edit in
+    (omega arith, sym on ∙ decides n list count place c.loop-place.invariant.1 here)
 
 pub returns-in-Bad : goal.returns-in-Bad
 returns-in-Bad c =
-    (decides-In-Bad c) ((fewer-In-Bad c) ∙ from_bad paper c.args.n c.args.list.now c.loop-place.place (inside-In-Bad c) ((4096 - (c.loop-place.count + 1))) ((is_read-In-Bad c) ∙ c.in-Bad.is))
-
--- what the list is from the place on decides the whole
-decides-After-loop-place : (c : goal.After-loop-place) → {x : Listed} → edits_from paper c.args.n c.args.list.now (4096 - c.loop-place.count) c.loop-place.place ≡ x → counted c.loop-place.count x ≡ counted 0 (edits_of paper c.args.n c.args.list.now)
-decides-After-loop-place c e = sym (ap (counted c.loop-place.count) e) ∙ c.loop-place.invariant.1
+    let n = c.args.n in
+    let list = c.args.list.now in
+    let place = c.loop-place.place in
+    let count = c.loop-place.count in
+    let is_edit = is_read n list place c.read.ensures ∙ c.in-Bad.is in
+    let here = fewer n list count place c.if-count-ge4096.false ∙ from_bad paper n list place c.loop-place-test.true (4096 - (count + 1)) is_edit in
+    decides n list count place c.loop-place.invariant.1 here
 
 pub returns : goal.returns
 returns c =
     let z : c.loop-place.count ≡ c.loop-place.count + 0 = omega arith in
-    ap Count z ∙ (decides-After-loop-place c) (from_end paper c.args.n c.args.list.now c.loop-place.place (4096 - c.loop-place.count) c.loop-place-test.false)
+    ap Count z
+    ∙ decides c.args.n c.args.list.now c.loop-place.count c.loop-place.place c.loop-place.invariant.1
+    (from_end paper c.args.n c.args.list.now c.loop-place.place (4096 - c.loop-place.count) c.loop-place-test.false)

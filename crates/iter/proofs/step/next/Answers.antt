@@ -7,7 +7,6 @@ use Rattle.iter.specs.declared.step.StepAnswer.TheVariants.{Done}
 use Rattle.iter.specs.Step.{plain_answer}
 use Rattle.iter.proofs.Steps.{error_alike}
 use Rattle.iter.proofs.OnLine.{on_line, on_line_lem, plain_is}
-use borrow.Author.Rules.{rules}
 use Rattle.iter.proofs.step.next.Goals as goal
 
 -- the step was asked on line 0: its answer on the line that is counted is the plain step's

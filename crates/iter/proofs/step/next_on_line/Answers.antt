@@ -2,7 +2,6 @@
 use mathlib.Core.Path.{sym, ap, ◌∙◌}
 use Rattle.iter.specs.declared.step.StepAnswer.TheVariants.{Done}
 use Rattle.iter.specs.Step.{step_answer}
-use borrow.Author.Rules.{rules}
 use Rattle.iter.proofs.step.next_on_line.Goals as goal
 
 pub returns-in-Digits : goal.returns-in-Digits

@@ -1,14 +1,11 @@
 -- `iter::step::next_with_digits` meets its contract.
 use mathlib.Core.Path.{◌≡◌, refl, sym, ap, ◌∙◌}
-use mathlib.Core.List.{List}
-use Prim.Native.Nat.{ℕ}
 use native.Mathlib.Omega.{arith}
 use borrow.Author.Tests.{not-true, not-false}
 use lib.ListN.{drop, length-drop}
-use Rattle.class.specs.Class.{Classes, paper}
+use Rattle.class.specs.Class.{paper}
 use Rattle.compare.specs.Prefix.{begins}
 use Rattle.line_number.proofs.Feeds.{until_le, line_behind_lem}
-use Rattle.decode.specs.declared.reference.Record.{Record}
 use Rattle.decode.specs.declared.reference.Reading.TheVariants as reading
 use Rattle.iter.proofs.ItemRead.{Reads, reads, told, goes_on, named, named_is}
 use Rattle.iter.proofs.Steps.{step_end, step_other, step_good, step_error, error_alike}

@@ -20,8 +20,8 @@ returns-then-not-sixteen_left-2 c = λ e. absurd (false≢true e)
 pub loop-k-init : goal.loop-k-init
 loop-k-init c =
     let a = c.args in
-    let x = leb-true _ _ (sym c.sixteen_left.ensures ∙ not-false _ c.if-not-sixteen_left.false-raw) in
-    let y = leb-true _ _ (sym c.sixteen_left-2.ensures ∙ not-false _ c.if-not-sixteen_left-2.false-raw) in
+    let x = leb-true _ _ (sym c.sixteen_left.ensures ∙ c.if-not-sixteen_left.false) in
+    let y = leb-true _ _ (sym c.sixteen_left-2.ensures ∙ c.if-not-sixteen_left-2.false) in
     (x, y, omega arith, λ e. alike_none a.x.now a.y.now a.i (omega arith) (omega arith))
 
 pub loop-k-preserved : goal.loop-k-preserved

@@ -15,12 +15,12 @@ pub returns-then-not-alike16 : goal.returns-then-not-alike16
 returns-then-not-alike16 c = c.by_letter.ensures ∙ c.loop-i.invariant
 
 pub overflow_add-i : goal.overflow_add-i
-overflow_add-i c = omega (arith, c.alike16.ensures (not-false _ c.if-not-alike16.false-raw))
+overflow_add-i c = omega (arith, c.alike16.ensures c.if-not-alike16.false)
 
 pub loop-i-smaller : goal.loop-i-smaller
-loop-i-smaller c = omega (arith, c.alike16.ensures (not-false _ c.if-not-alike16.false-raw))
+loop-i-smaller c = omega (arith, c.alike16.ensures c.if-not-alike16.false)
 
 pub loop-i-preserved : goal.loop-i-preserved
 loop-i-preserved c =
     let a = c.args in
-    sym (skip a.x.now a.y.now c.loop-i.i 16 (c.alike16.ensures (not-false _ c.if-not-alike16.false-raw))) ∙ c.loop-i.invariant
+    sym (skip a.x.now a.y.now c.loop-i.i 16 (c.alike16.ensures c.if-not-alike16.false)) ∙ c.loop-i.invariant

@@ -2,7 +2,6 @@
 use mathlib.Core.Path.{sym, ◌∙◌}
 use borrow.Author.Tests.{lt-ltb, le-ltb}
 use Rattle.probe.specs.Shape.{shape_of}
-use borrow.Author.Rules.{rules}
 use Rattle.probe.proofs.shape.name_at_record_start.Goals as goal
 
 pub returns-in_default : goal.returns-in_default

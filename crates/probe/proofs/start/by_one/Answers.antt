@@ -1,7 +1,5 @@
 -- `probe::start::by_one` meets its contract: the line that i lies in begins where the place's line does.
-use mathlib.Core.Path.{◌≡◌, sym, ◌∙◌}
-use Prim.Native.Nat.{◌≤◌}
-use Rattle.probe.specs.RecordStart.{line_start}
+use mathlib.Core.Path.{sym, ◌∙◌}
 use Rattle.probe.proofs.Starts.{line_first, line_stop, line_back}
 use borrow.Author.Rules.{rules}
 use Rattle.probe.proofs.start.by_one.Goals as goal

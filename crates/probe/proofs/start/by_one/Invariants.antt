@@ -1,9 +1,7 @@
 -- `probe::start::by_one` meets its contract: the line that i lies in begins where the place's line does.
-use mathlib.Core.Path.{◌≡◌, sym, ◌∙◌}
+use mathlib.Core.Path.{◌≡◌}
 use Prim.Native.Nat.{◌≤◌}
 use Rattle.probe.specs.RecordStart.{line_start}
-use Rattle.probe.proofs.Starts.{line_first, line_stop, line_back}
-use borrow.Author.Rules.{rules}
 use Rattle.probe.proofs.start.by_one.Given as goal
 
 abbrev pub invariant-loop-i : goal.invariant-loop-i

@@ -1,6 +1,6 @@
 -- `probe::start::by_sixteen` meets its contract: sixteen bytes without an LF are passed over, the rest goes byte by byte.
 use mathlib.Core.Path.{◌≡◌, sym, ap, ◌∙◌}
-use Prim.Native.Nat.{◌+◌, ◌-◌, ◌≤◌}
+use Prim.Native.Nat.{◌+◌, ◌-◌}
 use borrow.Author.Tests.{eqb-false}
 use Rattle.block.proofs.Members.{none_among}
 use Rattle.probe.specs.RecordStart.{line_start}

@@ -1,11 +1,7 @@
 -- `probe::start::by_sixteen` meets its contract: sixteen bytes without an LF are passed over, the rest goes byte by byte.
-use mathlib.Core.Path.{◌≡◌, sym, ap, ◌∙◌}
-use Prim.Native.Nat.{◌+◌, ◌-◌, ◌≤◌}
-use borrow.Author.Tests.{eqb-false}
-use Rattle.block.proofs.Members.{none_among}
+use mathlib.Core.Path.{◌≡◌}
+use Prim.Native.Nat.{◌≤◌}
 use Rattle.probe.specs.RecordStart.{line_start}
-use Rattle.probe.proofs.Starts.{line_skip}
-use borrow.Author.Rules.{rules}
 use Rattle.probe.proofs.start.by_sixteen.Given as goal
 
 abbrev pub invariant-loop-i : goal.invariant-loop-i

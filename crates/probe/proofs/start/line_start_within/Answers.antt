@@ -1,8 +1,7 @@
 -- `probe::start::line_start_within` meets its contract: the line that i lies in begins where the place's line does.
 use mathlib.Core.Path.{◌≡◌, sym, ◌∙◌}
-use Prim.Native.Nat.{◌-◌, ◌≤◌}
+use Prim.Native.Nat.{◌-◌}
 use native.Mathlib.Omega.{arith}
-use Rattle.probe.specs.RecordStart.{line_start}
 use Rattle.probe.proofs.Starts.{line_stop, look_back}
 use borrow.Author.Rules.{rules}
 use Rattle.probe.proofs.start.line_start_within.Goals as goal

@@ -1,5 +1,4 @@
 -- `probe::start::record_start` meets its contract.
-use borrow.Author.Rules.{rules}
 use Rattle.probe.proofs.start.record_start.Goals as goal
 
 pub returns : goal.returns

@@ -1,14 +1,9 @@
 -- `put::cr::by_one` meets its contract: the next CR from i on is the next from the start on.
-use mathlib.Core.Path.{◌≡◌, refl, sym, ap, ◌∙◌}
-use mathlib.Core.Bool.{not}
+use mathlib.Core.Path.{◌≡◌}
 use Prim.Native.Nat.{◌+◌, ◌-◌}
-use native.Mathlib.Omega.{arith}
 use lib.ListN.{length, drop}
-use borrow.Author.Tests.{eq-eqb, ne_eqb}
 use Rattle.parse.specs.Run.{span}
-use Rattle.parse.proofs.Runs.{span_end, span_stop, span_go}
 use Rattle.put.specs.Cr.{not_cr}
-use borrow.Author.Rules.{rules}
 use Rattle.put.proofs.cr.by_one.Given as goal
 
 abbrev pub invariant-loop-i : goal.invariant-loop-i

@@ -1,14 +1,9 @@
 -- `put::cr::next` meets its contract: sixteen bytes without a CR are passed over, the rest goes byte by byte.
-use mathlib.Core.Path.{◌≡◌, refl, sym, ap, ◌∙◌}
-use mathlib.Core.Bool.{not}
+use mathlib.Core.Path.{◌≡◌}
 use Prim.Native.Nat.{◌+◌, ◌-◌}
-use native.Mathlib.Omega.{arith}
 use lib.ListN.{drop}
-use Rattle.block.proofs.Members.{none_among}
 use Rattle.parse.specs.Run.{span}
-use Rattle.parse.proofs.Runs.{span_end, skip}
 use Rattle.put.specs.Cr.{not_cr}
-use borrow.Author.Rules.{rules}
 use Rattle.put.proofs.cr.next.Given as goal
 
 abbrev pub invariant-loop-i : goal.invariant-loop-i
