@@ -17,10 +17,10 @@ for f in $public; do
     path=Rattle.${f%%::*}.specs.contracts.$(echo "${f#*::}" | sed 's/::/./')
     file=$(grep -lE --exclude=Anywhere.antt "^use $path( as .*)?$" crates/determined/specs/*.antt) || { echo "no theorem: $f"; exit 1; }
     name=$(sed -nE "s/^use $path as (.*)$/\1/p" "$file"); name=${name:-${f##*::}}
-    theorem=$(sed -nE "s/^  pub ([a-z0-9_]+) : Determined(As)? $name\.ended \(λ M\. $name\.clauses\).*$/\1/p" "$file")
+    theorem=$(sed -nE "s/^  pub ([a-z0-9_]+) : Determined(As)? $name\.ended \(λ M 𝓤\. $name\.clauses\).*$/\1/p" "$file")
     [ -n "$theorem" ] || { echo "no theorem: $f"; exit 1; }
     grep -qF "| \`$f\` | \`$theorem\`" docs/DETERMINED.md || { echo "not in docs/DETERMINED.md: $f, $theorem"; exit 1; }
-    case $f in host::*) grep -q " : Anywhere $name\.ended (λ M\. $name\.clauses)" crates/determined/specs/Anywhere.antt || { echo "no theorem Anywhere: $f"; exit 1; } ;; esac
+    case $f in host::*) grep -q " : Anywhere $name\.ended (λ M 𝓤\. $name\.clauses)" crates/determined/specs/Anywhere.antt || { echo "no theorem Anywhere: $f"; exit 1; } ;; esac
     count=$((count + 1))
 done
 lines=$(grep -c '^| `[a-z_]*::' docs/DETERMINED.md)
