@@ -100,8 +100,8 @@ module _ (byte : Classes) (n : ℕ) (file list index : List ℕ) where
 pub marked_stop : (s : Spot) (list index : List ℕ) (j : ℕ) (marks : List ℕ) (why : Refusal) → Stopped s why
     → marked s.byte s.n s.file list index s.place s.last j marks ≡ marks
 marked_stop s list index j marks (BadHeader text) x = absurd x
-marked_stop s list index j marks (BadRecord place f) (here, k) = marked_bad s.byte s.n s.file list index s.place s.last j marks k
-marked_stop s list index j marks (Unsorted place) (here, r, k, e) = marked_unsorted s.byte s.n s.file list index s.place s.last j marks k e
+marked_stop s list index j marks (BadRecord place f) (_, k) = marked_bad s.byte s.n s.file list index s.place s.last j marks k
+marked_stop s list index j marks (Unsorted place) (_, r, k, e) = marked_unsorted s.byte s.n s.file list index s.place s.last j marks k e
 
 -- in a file that passes there is no fault before an edit
 pub surveyed_clean : (n : ℕ) (list : List ℕ) (place count : ℕ) (last : List ℕ) (l : List Item) (ps : List ℕ) (all : ℕ) → judge n place count last l ≡ Clean all

@@ -41,7 +41,7 @@ module _ {lt : ℕ → ℕ → Bool} (o : StrictOrder lt) (l a : List ℕ) (n : 
       only_order o entry a
       (
       record {
-        IsAscending = λ i j b m. e.in_place i j b (omega arith) m;
+        ascending = λ i j b m. e.in_place i j b (omega arith) m;
         permutation = λ x. e.moved.permutation x ∙ p.permutation x;
       }
       )

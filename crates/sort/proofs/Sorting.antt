@@ -76,7 +76,7 @@ module _ {lt : ℕ → ℕ → Bool} (o : StrictOrder lt) where
 
   pub sorted_in_order : (l : List ℕ) → InOrder lt l (sorted lt l)
   sorted_in_order l =
-      record { IsAscending = pairs_at (NotAfter lt) (sorted lt l) (pairs_sorted l); permutation = permutation_sorted l }
+      record { ascending = pairs_at (NotAfter lt) (sorted lt l) (pairs_sorted l); permutation = permutation_sorted l }
 
   -- ---- two lists in order with the same entries are one
 
@@ -104,5 +104,5 @@ module _ {lt : ℕ → ℕ → Bool} (o : StrictOrder lt) where
 
   pub only_order : (l a : List ℕ) → InOrder lt l a → a ≡ sorted lt l
   only_order l a h =
-      one_order a (sorted lt l) (pairs_by (NotAfter lt) a h.IsAscending) (pairs_sorted l)
+      one_order a (sorted lt l) (pairs_by (NotAfter lt) a h.ascending) (pairs_sorted l)
       (λ z. h.permutation z ∙ sym (permutation_sorted l z))

@@ -18,11 +18,11 @@ no_other_order layout s = only_order (places_are_ordered layout s)
 
 pub no_twin_names_rise : NoTwinNamesRise
 no_twin_names_rise layout s l =
-    names_rise (standing_name layout s) (sorted (comes_first layout s) l) (sorted_is_in_order layout s l).IsAscending
+    names_rise (standing_name layout s) (sorted (comes_first layout s) l) (sorted_is_in_order layout s l).ascending
 
 pub no_twin_all_different : NoTwinAllDifferent
 no_twin_all_different layout s l =
-    all_different (standing_name layout s) (sorted (comes_first layout s) l) (sorted_is_in_order layout s l).IsAscending
+    all_different (standing_name layout s) (sorted (comes_first layout s) l) (sorted_is_in_order layout s l).ascending
 
 pub twin_is_twin : TwinIsTwin
 twin_is_twin layout s = is_twin (standing_name layout s)

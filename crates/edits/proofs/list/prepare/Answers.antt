@@ -1,0 +1,64 @@
+-- `edits::list::prepare` meets its contract.
+use mathlib.Core.Path.{◌≡◌, sym, ap, ◌∙◌}
+use mathlib.Core.Bool.{false}
+use mathlib.Core.List.{List, ◌++◌}
+use Prim.Native.Nat.{ℕ, ◌≤◌}
+use native.Mathlib.Omega.{arith}
+use lib.ListN.{length, take, drop}
+use borrow.Author.Tests.{ltb-false}
+use Rattle.class.specs.Class.{paper}
+use Rattle.parse.specs.Limit.{over_limit}
+use Rattle.edits.specs.declared.list.Edits.TheVariants.{Count}
+use Rattle.edits.specs.List.{edits_of, counted, places_of, in_order, twins_of}
+use Rattle.edits.proofs.Ordering.{front, behind}
+use Rattle.edits.proofs.Outcomes.{counted_count, comes_large, comes_bad, comes_short, comes_ready}
+use borrow.Author.Rules.{rules}
+use Rattle.edits.proofs.list.prepare.Goals as goal
+
+pub returns-then-over_limit : goal.returns-then-over_limit
+returns-then-over_limit c =
+    let t = comes_large paper c.args.n c.args.list.now c.args.index.now (sym c.over_limit.ensures ∙ c.if-over_limit.true) in
+    record { value = t.0; index_after = t.1 }
+
+pub returns-then-index-k : goal.returns-then-index-k
+returns-then-index-k c =
+    let within = sym c.over_limit.ensures ∙ c.if-over_limit.false in
+    let number_is = sym c.count.ensures ∙ c.in-Count.is in
+    let t = comes_short paper c.args.n c.args.list.now c.args.index.now within c.in-Count.k number_is c.if-index-k.true in
+    record { value = t.0; index_after = t.1 }
+
+pub fill-requires : goal.fill-requires
+unfolding over_limit
+fill-requires c =
+    let within = sym c.over_limit.ensures ∙ c.if-over_limit.false in
+    let number_is = sym c.count.ensures ∙ c.in-Count.is in
+    let whole = counted_count (edits_of paper c.args.n c.args.list.now) c.in-Count.k number_is in
+    (omega (arith, ltb-false 1073741824 (length c.args.list.now) within), whole.2, omega (arith, whole.1, c.if-index-k.false))
+
+pub returns-in-Bad : goal.returns-in-Bad
+returns-in-Bad c =
+    let within = sym c.over_limit.ensures ∙ c.if-over_limit.false in
+    let t = comes_bad paper c.args.n c.args.list.now c.args.index.now within c.in-Bad.why (sym c.count.ensures ∙ c.in-Bad.is) in
+    record { value = t.0; index_after = t.1 }
+
+pub returns-else-index-k : goal.returns-else-index-k
+returns-else-index-k c =
+    let within = sym c.over_limit.ensures ∙ c.if-over_limit.false in
+    let k = c.in-Count.k in
+    let list = c.args.list.now in
+    let index = c.args.index.now in
+    let filled = c.fill.new.index in
+    let number_is = sym c.count.ensures ∙ c.in-Count.is in
+    let places = places_of (edits_of paper c.args.n list) in
+    let places_are = (counted_count (edits_of paper c.args.n list) k number_is).1 in
+    let in_front = front places index filled k c.fill.ensures places_are c.if-index-k.false in
+    let left = behind places index filled k c.fill.ensures places_are c.if-index-k.false in
+    let ready = comes_ready paper c.args.n list index within k number_is c.if-index-k.false in
+    record {
+      value = c.put_in_order.ensures.value ∙ ap (λ l. twins_of list k (in_order list l)) in_front ∙ ready.0;
+      index_after =
+          c.put_in_order.ensures.index_after
+          ∙ ap (λ l. in_order list l ++ drop k filled) in_front
+          ∙ ap (λ l. in_order list places ++ l) left
+          ∙ ready.1;
+    }

@@ -1,0 +1,9 @@
+-- `line_number::behind` meets its contract.
+use borrow.Author.Tests.{lt-ltb, le-ltb}
+use Rattle.line_number.proofs.behind.Goals as goal
+
+pub returns-then-end-len : goal.returns-then-end-len
+returns-then-end-len c = rw (lt-ltb _ _ c.if-end-len.true)
+
+pub returns : goal.returns
+returns c = rw (le-ltb _ _ c.if-end-len.false)

@@ -1,0 +1,6 @@
+-- `loose::ends_path` meets its contract.
+use borrow.Author.Rules.{rules}
+use Rattle.loose.proofs.ends_path.Goals as goal
+
+pub returns : goal.returns
+returns c = rw c.is_line_end.ensures

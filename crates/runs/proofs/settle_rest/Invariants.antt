@@ -1,0 +1,18 @@
+-- `runs::settle_rest` meets its contract: the edits that are left all get the same empty run.
+use mathlib.Core.Path.{◌≡◌, refl, ◌∙◌}
+use Prim.Native.Nat.{ℕ, ◌-◌}
+use mathlib.Core.List.{List}
+use lib.ListN.{length, drop}
+use Rattle.runs.specs.Runs.{Run, at_end}
+use Rattle.runs.proofs.Marks.{Going, begin, ends, goes_on, at_end_none, at_end_one}
+use borrow.Author.Rules.{rules}
+use Rattle.runs.proofs.settle_rest.Given as goal
+
+abbrev left : List ℕ → ℕ → ℕ → List Run
+left index place j = at_end place (drop j index)
+
+abbrev pub invariant-loop-j : goal.invariant-loop-j
+invariant-loop-j l = (length l.marks ≡ length l.initial.marks) × Going (left l.index l.place) l.from l.initial.marks l.j l.marks
+
+abbrev pub decreases-loop-j : goal.decreases-loop-j
+decreases-loop-j l = length l.index - l.j

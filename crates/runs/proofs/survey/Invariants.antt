@@ -1,0 +1,29 @@
+-- `runs::survey` meets its contract: the check goes as in `checks`, and beside it each record settles its edits.
+use mathlib.Core.Path.{◌≡◌, refl, sym, ap, ◌∙◌}
+use mathlib.Core.List.{List, []}
+use Prim.Native.Nat.{ℕ, ◌+◌, ◌*◌, ◌-◌, ◌≤◌}
+use native.Mathlib.Numerals.{add-one}
+use native.Mathlib.Omega.{arith}
+use lib.ListN.{length, drop}
+use Rattle.class.specs.Class.{paper}
+use Rattle.decode.specs.declared.reference.Record.{Record}
+use Rattle.checks.specs.declared.Turn.{Turn}
+use Rattle.checks.specs.declared.Turn.TheVariants.{On}
+use Rattle.iter.specs.Items.{items}
+use Rattle.checks.specs.Check.{judge, judge_body}
+use Rattle.iter.proofs.ItemRead.{goes_on, named, named_is}
+use Rattle.checks.proofs.CheckTurns.{Spot, Turned, turned, judged_after, judged}
+use Rattle.put.specs.Put.{over}
+use Rattle.runs.specs.Runs.{Run, settles, marks_of}
+use Rattle.runs.proofs.RunTurns.{marked, marked_end, marked_stop, marked_on}
+use borrow.Author.Rules.{rules}
+use Rattle.runs.proofs.survey.Given as goal
+
+abbrev pub invariant-loop-marks : goal.invariant-loop-marks
+invariant-loop-marks l = l.count ≤ l.place
+    × (length l.marks ≡ length l.initial.marks)
+    × (judge l.n l.place l.count l.last (items paper l.n (drop l.place l.file)) ≡ judge_body paper l.n l.file l.body)
+    × (marked paper l.n l.file l.list l.index l.place l.last l.j l.marks ≡ marked paper l.n l.file l.list l.index l.body [] 0 l.initial.marks)
+
+abbrev pub decreases-loop-marks : goal.decreases-loop-marks
+decreases-loop-marks l = length l.file - l.place
