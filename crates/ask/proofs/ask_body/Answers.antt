@@ -1,13 +1,10 @@
 -- `ask::ask_body` meets its contract: what the items from the place reached on come to decides the whole.
 use mathlib.Core.Path.{◌≡◌, refl, sym, ap, ◌∙◌}
-use mathlib.Core.List.{List}
-use Prim.Native.Nat.{ℕ, ◌+◌, ◌-◌, ◌≤◌}
+use Prim.Native.Nat.{ℕ, ◌+◌, ◌≤◌}
 use native.Mathlib.Numerals.{add-one}
 use native.Mathlib.Omega.{arith}
-use lib.ListN.{length}
 use Rattle.class.specs.Class.{paper}
 use Rattle.compare.specs.Prefix.{same}
-use Rattle.decode.specs.declared.reference.Record.{Record}
 use Rattle.checks.specs.declared.Turn.{Turn}
 use Rattle.checks.specs.declared.Turn.TheVariants.{On}
 use Rattle.checks.specs.Check.{judge_from, judge_body}
@@ -26,7 +23,7 @@ unfolding ask_body judge_body
 loop-why-init c = (search rules, refl)
 
 abbrev here-In-End : (c : goal.In-End) → Spot
-here-In-End c =    
+here-In-End c =
     let a = c.args in
     record { byte = paper; n = a.n; file = a.file.now; place = c.loop-why.place; last = c.loop-why.last.now }
 
@@ -41,7 +38,7 @@ pub returns-in-End : goal.returns-in-End
 returns-in-End c = (whole-In-End c) (ask_end (here-In-End c) c.args.name.now c.loop-why.count ((tells-In-End c) _ c.in-End.is))
 
 abbrev here-After-tell : (c : goal.After-tell) → Spot
-here-After-tell c =    
+here-After-tell c =
     let a = c.args in
     record { byte = paper; n = a.n; file = a.file.now; place = c.loop-why.place; last = c.loop-why.last.now }
 
@@ -64,7 +61,7 @@ returns-in-Refused c =
     ∙ (stopped-After-tell c) _ c.in-Refused.is _ c.first_named-sought.ensures
 
 abbrev here-In-On : (c : goal.In-On) → Spot
-here-In-On c =    
+here-In-On c =
     let a = c.args in
     record { byte = paper; n = a.n; file = a.file.now; place = c.loop-why.place; last = c.loop-why.last.now }
 
@@ -81,7 +78,7 @@ pub slice_bounds-name_of-start : goal.slice_bounds-name_of-start
 slice_bounds-name_of-start c = omega (arith, (on-In-On c).0.inside)
 
 abbrev here-After-name_of-last : (c : goal.After-name_of-last) → Spot
-here-After-name_of-last c =    
+here-After-name_of-last c =
     let a = c.args in
     record { byte = paper; n = a.n; file = a.file.now; place = c.loop-why.place; last = c.loop-why.last.now }
 
@@ -99,7 +96,7 @@ pub overflow_add-count : goal.overflow_add-count
 overflow_add-count c = omega (arith, (few-After-name_of-last c), goes_on (on-After-name_of-last c).0, c.well_formed)
 
 abbrev here-After-struct_known-1 : (c : goal.After-struct_known-1) → Spot
-here-After-struct_known-1 c =    
+here-After-struct_known-1 c =
     let a = c.args in
     record { byte = paper; n = a.n; file = a.file.now; place = c.loop-why.place; last = c.loop-why.last.now }
 
@@ -113,7 +110,7 @@ pub overflow_add-next : goal.overflow_add-next
 overflow_add-next c = omega (arith, goes_on (on-After-struct_known-1 c).0, c.well_formed)
 
 abbrev here-After-check_from-verdict : (c : goal.After-check_from-verdict) → Spot
-here-After-check_from-verdict c =    
+here-After-check_from-verdict c =
     let a = c.args in
     record { byte = paper; n = a.n; file = a.file.now; place = c.loop-why.place; last = c.loop-why.last.now }
 
@@ -147,7 +144,7 @@ returns-then-is_same c =
     ∙ (whole-After-check_from-verdict c) (ask_found (here-After-check_from-verdict c) c.args.name.now c.loop-why.count r (on-After-check_from-verdict c) _ (name_is-After-check_from-verdict c) ((wanted_is-After-check_from-verdict c) ∙ c.if-is_same.true))
 
 abbrev here-Else-is_same : (c : goal.Else-is_same) → Spot
-here-Else-is_same c =    
+here-Else-is_same c =
     let a = c.args in
     record { byte = paper; n = a.n; file = a.file.now; place = c.loop-why.place; last = c.loop-why.last.now }
 
