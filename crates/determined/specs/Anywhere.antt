@@ -1,7 +1,7 @@
 -- What C and Rust call: the same numbers and the same bytes give the same reply and leave the same memory, wherever the bytes lie and whenever the call is made.
 use Rattle.std.specs.Prelude.{◌≡◌, List, [], ◌∷◌, ℕ}
 use base.Logic.{ent}
-use Rattle.std.specs.Borrow.{GName, Bor}
+use Rattle.std.specs.Borrow.{GName, Bor, MutBor}
 use contract.Lifetimes.{Lfts}
 use contract.Monad.{conj, fact}
 use denote.Triple.Entry.{Args, Res}
@@ -34,7 +34,7 @@ Values (number ∷ ps) = ℕ × Values ps
 Values (lent ∷ ps) = List ℕ × Values ps
 Values (written ∷ ps) = List ℕ × Values ps
 
--- where a list lies: a block of memory, a place in it, and the name under which the logic follows what stands there
+-- where a list lies: a block of memory, a place in it, and the name under which the logic follows what stands there, if it is lent for writing
 pub record Place : Type 0 where
   pub ptr : ℕ × ℕ
   pub name : GName
@@ -50,12 +50,12 @@ abbrev pub Laid : List Parameter → Type 0
 Laid [] = Unit {0}
 Laid (number ∷ ps) = ℕ × Laid ps
 Laid (lent ∷ ps) = Bor (List ℕ) × Laid ps
-Laid (written ∷ ps) = Bor (List ℕ) × Laid ps
+Laid (written ∷ ps) = MutBor (List ℕ) × Laid ps
 
 abbrev pub laid : (ps : List Parameter) → Values ps → Places ps → Laid ps
 laid [] v w = tt
 laid (number ∷ ps) v w = (v.0, laid ps v.1 w)
-laid (lent ∷ ps) v w = (record { ref_ptr = w.0.ptr; ghost_name = w.0.name; now = v.0 }, laid ps v.1 w.1)
+laid (lent ∷ ps) v w = (record { ref_ptr = w.0.ptr; now = v.0 }, laid ps v.1 w.1)
 laid (written ∷ ps) v w = (record { ref_ptr = w.0.ptr; ghost_name = w.0.name; now = v.0 }, laid ps v.1 w.1)
 
 -- what the memory lent for writing holds afterwards
@@ -86,16 +86,16 @@ module _ (T : Ended) (c : Contract T) (ps : List Parameter) {R : Type 0} (takes 
       → ent m.𝓤 (conj m.𝓤 (Allowed T c m (call_of m v k) o) (Allowed T c m (call_of m v k') o')) (fact m.𝓤 (told m (call_of m v k) o ≡ told m (call_of m v k') o'))
 
 pub record Called : Type 2 where
-  pub packed_refs_header_lem : Anywhere packed_refs_header.ended (λ M. packed_refs_header.clauses) (lent ∷ []) (λ κs a. a) (λ κs r. r) (λ κs a l. l)
-  pub packed_refs_name_lem : Anywhere packed_refs_name.ended (λ M. packed_refs_name.clauses) (lent ∷ []) (λ κs a. a) (λ κs r. r) (λ κs a l. l)
-  pub packed_refs_start_lem : Anywhere packed_refs_start.ended (λ M. packed_refs_start.clauses) (number ∷ lent ∷ []) (λ κs a. a) (λ κs r. r) (λ κs a l. l)
-  pub packed_refs_step_lem : Anywhere packed_refs_step.ended (λ M. packed_refs_step.clauses) (number ∷ lent ∷ number ∷ []) (λ κs a. a) (λ κs r. r) (λ κs a l. l)
-  pub packed_refs_walk_lem : Anywhere packed_refs_walk.ended (λ M. packed_refs_walk.clauses) (number ∷ lent ∷ number ∷ number ∷ []) (λ κs a. a) (λ κs r. r) (λ κs a l. l)
-  pub packed_refs_step_prefix_lem : Anywhere packed_refs_step_prefix.ended (λ M. packed_refs_step_prefix.clauses) (number ∷ lent ∷ lent ∷ number ∷ []) (λ κs a. a) (λ κs r. r) (λ κs a l. l)
-  pub packed_refs_check_lem : Anywhere packed_refs_check.ended (λ M. packed_refs_check.clauses) (number ∷ lent ∷ []) (λ κs a. a) (λ κs r. r) (λ κs a l. l)
-  pub packed_refs_record_start_lem : Anywhere packed_refs_record_start.ended (λ M. packed_refs_record_start.clauses) (lent ∷ number ∷ []) (λ κs a. a) (λ κs r. r) (λ κs a l. l)
-  pub packed_refs_lookup_lem : Anywhere packed_refs_lookup.ended (λ M. packed_refs_lookup.clauses) (number ∷ lent ∷ lent ∷ []) (λ κs a. a) (λ κs r. r) (λ κs a l. l)
-  pub packed_refs_prefix_lem : Anywhere packed_refs_prefix.ended (λ M. packed_refs_prefix.clauses) (number ∷ lent ∷ lent ∷ []) (λ κs a. a) (λ κs r. r) (λ κs a l. l)
-  pub packed_refs_ask_lem : Anywhere packed_refs_ask.ended (λ M. packed_refs_ask.clauses) (number ∷ lent ∷ lent ∷ []) (λ κs a. a) (λ κs r. r) (λ κs a l. l)
-  pub packed_refs_loose_lem : Anywhere packed_refs_loose.ended (λ M. packed_refs_loose.clauses) (number ∷ lent ∷ []) (λ κs a. a) (λ κs r. r) (λ κs a l. l)
-  pub packed_refs_merge_lem : Anywhere packed_refs_merge.ended (λ M. packed_refs_merge.clauses) (number ∷ lent ∷ lent ∷ written ∷ written ∷ []) (λ κs a. a) (λ κs r. r) (λ κs a l. l)
+  pub packed_refs_header_lem : Anywhere packed_refs_header.ended (λ M 𝓤. packed_refs_header.clauses) (lent ∷ []) (λ κs a. a) (λ κs r. r) (λ κs a l. l)
+  pub packed_refs_name_lem : Anywhere packed_refs_name.ended (λ M 𝓤. packed_refs_name.clauses) (lent ∷ []) (λ κs a. a) (λ κs r. r) (λ κs a l. l)
+  pub packed_refs_start_lem : Anywhere packed_refs_start.ended (λ M 𝓤. packed_refs_start.clauses) (number ∷ lent ∷ []) (λ κs a. a) (λ κs r. r) (λ κs a l. l)
+  pub packed_refs_step_lem : Anywhere packed_refs_step.ended (λ M 𝓤. packed_refs_step.clauses) (number ∷ lent ∷ number ∷ []) (λ κs a. a) (λ κs r. r) (λ κs a l. l)
+  pub packed_refs_walk_lem : Anywhere packed_refs_walk.ended (λ M 𝓤. packed_refs_walk.clauses) (number ∷ lent ∷ number ∷ number ∷ []) (λ κs a. a) (λ κs r. r) (λ κs a l. l)
+  pub packed_refs_step_prefix_lem : Anywhere packed_refs_step_prefix.ended (λ M 𝓤. packed_refs_step_prefix.clauses) (number ∷ lent ∷ lent ∷ number ∷ []) (λ κs a. a) (λ κs r. r) (λ κs a l. l)
+  pub packed_refs_check_lem : Anywhere packed_refs_check.ended (λ M 𝓤. packed_refs_check.clauses) (number ∷ lent ∷ []) (λ κs a. a) (λ κs r. r) (λ κs a l. l)
+  pub packed_refs_record_start_lem : Anywhere packed_refs_record_start.ended (λ M 𝓤. packed_refs_record_start.clauses) (lent ∷ number ∷ []) (λ κs a. a) (λ κs r. r) (λ κs a l. l)
+  pub packed_refs_lookup_lem : Anywhere packed_refs_lookup.ended (λ M 𝓤. packed_refs_lookup.clauses) (number ∷ lent ∷ lent ∷ []) (λ κs a. a) (λ κs r. r) (λ κs a l. l)
+  pub packed_refs_prefix_lem : Anywhere packed_refs_prefix.ended (λ M 𝓤. packed_refs_prefix.clauses) (number ∷ lent ∷ lent ∷ []) (λ κs a. a) (λ κs r. r) (λ κs a l. l)
+  pub packed_refs_ask_lem : Anywhere packed_refs_ask.ended (λ M 𝓤. packed_refs_ask.clauses) (number ∷ lent ∷ lent ∷ []) (λ κs a. a) (λ κs r. r) (λ κs a l. l)
+  pub packed_refs_loose_lem : Anywhere packed_refs_loose.ended (λ M 𝓤. packed_refs_loose.clauses) (number ∷ lent ∷ []) (λ κs a. a) (λ κs r. r) (λ κs a l. l)
+  pub packed_refs_merge_lem : Anywhere packed_refs_merge.ended (λ M 𝓤. packed_refs_merge.clauses) (number ∷ lent ∷ lent ∷ written ∷ written ∷ []) (λ κs a. a) (λ κs r. r) (λ κs a l. l)

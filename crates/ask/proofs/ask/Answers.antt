@@ -2,7 +2,6 @@
 use mathlib.Core.Path.{sym, ap, ◌∙◌}
 use Rattle.ask.specs.declared.AskAnswer.TheVariants.{Done}
 use Rattle.ask.specs.Ask.{ask_answer}
-use borrow.Author.Rules.{rules}
 use Rattle.ask.proofs.ask.Goals as goal
 
 pub returns-in-Digits : goal.returns-in-Digits

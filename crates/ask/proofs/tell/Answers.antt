@@ -1,5 +1,4 @@
 -- `ask::tell` meets its contract.
-use borrow.Author.Rules.{rules}
 use Rattle.ask.proofs.tell.Goals as goal
 
 pub returns-in-At : goal.returns-in-At

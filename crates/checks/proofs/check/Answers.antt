@@ -2,7 +2,6 @@
 use mathlib.Core.Path.{sym, ap, ◌∙◌}
 use Rattle.checks.specs.declared.CheckAnswer.TheVariants.{Done}
 use Rattle.checks.specs.Check.{check_answer}
-use borrow.Author.Rules.{rules}
 use Rattle.checks.proofs.check.Goals as goal
 
 pub returns-in-Digits : goal.returns-in-Digits

@@ -1,17 +1,13 @@
 -- `checks::check_from` meets its contract: the items from the place reached on, judged after those before, decide the whole.
 use mathlib.Core.Path.{◌≡◌, sym, ◌∙◌}
-use Prim.Native.Nat.{◌-◌, ◌≤◌}
 use native.Mathlib.Numerals.{add-one}
 use native.Mathlib.Omega.{arith}
-use lib.ListN.{length, drop}
 use Rattle.class.specs.Class.{paper}
 use Rattle.checks.specs.declared.Turn.{Turn}
 use Rattle.checks.specs.declared.Turn.TheVariants.{On}
-use Rattle.iter.specs.Items.{items}
-use Rattle.checks.specs.Check.{judge, judge_from, count_before}
+use Rattle.checks.specs.Check.{judge_from, count_before}
 use Rattle.iter.proofs.ItemRead.{goes_on, named_is}
 use Rattle.checks.proofs.CheckTurns.{Spot, Turned, turned, judged_after, judged, before_le}
-use borrow.Author.Rules.{rules}
 use Rattle.checks.proofs.check_from.Goals as goal
 
 pub loop-why-init : goal.loop-why-init
@@ -20,7 +16,7 @@ loop-why-init c =
     (omega (arith, c.count_before-count.ensures, before_le a.passed a.from), rw c.count_before-count.ensures)
 
 abbrev here-In-End : (c : goal.In-End) → Spot
-here-In-End c =    
+here-In-End c =
     let a = c.args in
     record { byte = paper; n = a.n; file = a.file.now; place = c.loop-why.place; last = c.loop-why.last.now }
 
@@ -36,7 +32,7 @@ pub returns-in-End : goal.returns-in-End
 returns-in-End c = (whole-In-End c) _ c.in-End.is
 
 abbrev here-After-refused : (c : goal.After-refused) → Spot
-here-After-refused c =    
+here-After-refused c =
     let a = c.args in
     record { byte = paper; n = a.n; file = a.file.now; place = c.loop-why.place; last = c.loop-why.last.now }
 
@@ -52,7 +48,7 @@ pub returns-in-Refused : goal.returns-in-Refused
 returns-in-Refused c = c.refused.ensures ∙ (whole-After-refused c) _ c.in-Refused.is
 
 abbrev here-In-On : (c : goal.In-On) → Spot
-here-In-On c =    
+here-In-On c =
     let a = c.args in
     record { byte = paper; n = a.n; file = a.file.now; place = c.loop-why.place; last = c.loop-why.last.now }
 
@@ -69,7 +65,7 @@ pub slice_bounds-name_of-start : goal.slice_bounds-name_of-start
 slice_bounds-name_of-start c = omega (arith, (on-In-On c).0.inside)
 
 abbrev here-After-name_of-last : (c : goal.After-name_of-last) → Spot
-here-After-name_of-last c =    
+here-After-name_of-last c =
     let a = c.args in
     record { byte = paper; n = a.n; file = a.file.now; place = c.loop-why.place; last = c.loop-why.last.now }
 
@@ -84,7 +80,7 @@ overflow_add-count c =
     omega (arith, goes_on (on-After-name_of-last c).0, c.loop-why.invariant.0, c.well_formed)
 
 abbrev here-After-struct_known-1 : (c : goal.After-struct_known-1) → Spot
-here-After-struct_known-1 c =    
+here-After-struct_known-1 c =
     let a = c.args in
     record { byte = paper; n = a.n; file = a.file.now; place = c.loop-why.place; last = c.loop-why.last.now }
 

@@ -1,17 +1,10 @@
 -- `checks::check_from` meets its contract: the items from the place reached on, judged after those before, decide the whole.
-use mathlib.Core.Path.{◌≡◌, sym, ◌∙◌}
+use mathlib.Core.Path.{◌≡◌}
 use Prim.Native.Nat.{◌-◌, ◌≤◌}
-use native.Mathlib.Numerals.{add-one}
-use native.Mathlib.Omega.{arith}
 use lib.ListN.{length, drop}
 use Rattle.class.specs.Class.{paper}
-use Rattle.checks.specs.declared.Turn.{Turn}
-use Rattle.checks.specs.declared.Turn.TheVariants.{On}
 use Rattle.iter.specs.Items.{items}
 use Rattle.checks.specs.Check.{judge, judge_from, count_before}
-use Rattle.iter.proofs.ItemRead.{goes_on, named_is}
-use Rattle.checks.proofs.CheckTurns.{Spot, Turned, turned, judged_after, judged, before_le}
-use borrow.Author.Rules.{rules}
 use Rattle.checks.proofs.check_from.Given as goal
 
 abbrev pub invariant-loop-why : goal.invariant-loop-why

@@ -3,7 +3,6 @@ use mathlib.Core.Path.{sym, ◌∙◌}
 use native.Mathlib.Omega.{arith}
 use Rattle.checks.specs.Check.{judge_body, check_of}
 use Rattle.checks.proofs.CheckTurns.{before_is}
-use borrow.Author.Rules.{rules}
 use Rattle.checks.proofs.check_with_digits.Goals as goal
 
 pub returns-in-Unreadable : goal.returns-in-Unreadable

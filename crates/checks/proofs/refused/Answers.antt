@@ -1,5 +1,4 @@
 -- `checks::refused` meets its contract.
-use borrow.Author.Rules.{rules}
 use Rattle.checks.proofs.refused.Goals as goal
 
 pub returns-in-BadHeader : goal.returns-in-BadHeader

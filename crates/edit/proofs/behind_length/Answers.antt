@@ -1,17 +1,15 @@
 -- `edit::behind_length` meets its contract: each return hands on what the parts before it said.
 use mathlib.Core.Path.{◌≡◌, sym, ap, ◌∙◌}
 use mathlib.Core.Bool.{true}
-use mathlib.Core.List.{List}
-use Prim.Native.Nat.{ℕ, ◌+◌, ◌≤◌}
+use Prim.Native.Nat.{◌+◌, ◌≤◌}
 use native.Mathlib.Omega.{arith}
-use borrow.Author.Tests.{not-true, not-false, leb-true}
+use borrow.Author.Tests.{leb-true}
 use lib.Dec.{leb}
 use lib.ListN.{length}
-use Rattle.class.specs.Class.{Classes, paper}
+use Rattle.class.specs.Class.{paper}
 use Rattle.name.specs.Name.{valid_name}
 use Rattle.parts.specs.Parts.{edit_name}
 use Rattle.edit.proofs.Readings.{empty_name, long_name, cut_short, bad_name_lem, good_name}
-use borrow.Author.Rules.{rules}
 use Rattle.edit.proofs.behind_length.Goals as goal
 
 pub returns-then-len-eq0 : goal.returns-then-len-eq0

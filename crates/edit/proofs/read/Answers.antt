@@ -1,9 +1,8 @@
 -- `edit::read` meets its contract: each return hands on what the parts before it said.
 use mathlib.Core.Path.{◌≡◌, sym, ap, ◌∙◌}
-use mathlib.Core.List.{List}
-use Prim.Native.Nat.{ℕ, ◌*◌, ◌/◌, ◌≤◌}
+use Prim.Native.Nat.{◌*◌, ◌/◌, ◌≤◌}
 use native.Mathlib.Omega.{arith}
-use Rattle.class.specs.Class.{Classes, paper}
+use Rattle.class.specs.Class.{paper}
 use Rattle.length.specs.declared.Length.TheVariants.{Of}
 use Rattle.length.specs.Length.{length_at}
 use Rattle.parts.specs.Parts.{edit_kind}

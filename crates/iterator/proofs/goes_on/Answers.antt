@@ -1,5 +1,4 @@
 -- `iterator::goes_on` meets its contract: in each of its cases the definition computes to what is returned.
-use borrow.Author.Rules.{rules}
 use Rattle.iterator.proofs.goes_on.Goals as goal
 
 pub returns-in-End : goal.returns-in-End

@@ -7,7 +7,6 @@ use lib.ListN.{length}
 use Rattle.iter.specs.Step.{prefix_answer}
 use Rattle.walker.specs.Walk.{walk_answer}
 use Rattle.iterator.specs.Next.{step_with, stepped_from}
-use borrow.Author.Rules.{rules}
 use Rattle.iterator.proofs.step.Goals as goal
 
 walks : (kind : ℕ) (prefix s : List ℕ) (place line : ℕ) → length prefix ≡ 0 → walk_answer kind s place line ≡ step_with kind prefix s place line

@@ -3,7 +3,6 @@ use mathlib.Core.List.{[], ◌∷◌}
 use native.Mathlib.Omega.{arith}
 use Rattle.hex_digits.specs.Hex.{hex_text}
 use Rattle.lines.proofs.Lines.{three_put}
-use borrow.Author.Rules.{rules}
 use Rattle.lines.proofs.put_peeled.Goals as goal
 
 pub returns : goal.returns

@@ -3,7 +3,6 @@ use mathlib.Core.List.{[], ◌∷◌}
 use native.Mathlib.Omega.{arith}
 use Rattle.hex_digits.specs.Hex.{hex_text}
 use Rattle.lines.proofs.Lines.{four_put}
-use borrow.Author.Rules.{rules}
 use Rattle.lines.proofs.put_record.Goals as goal
 
 pub returns : goal.returns

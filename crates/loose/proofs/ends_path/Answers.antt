@@ -1,5 +1,4 @@
 -- `loose::ends_path` meets its contract.
-use borrow.Author.Rules.{rules}
 use Rattle.loose.proofs.ends_path.Goals as goal
 
 pub returns : goal.returns

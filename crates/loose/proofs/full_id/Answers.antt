@@ -2,7 +2,6 @@
 use mathlib.Core.Path.{sym, ap, ◌∙◌}
 use mathlib.Core.Bool.{not}
 use lib.ListN.{get_or}
-use borrow.Author.Rules.{rules}
 use Rattle.class.specs.Class.{paper}
 use Rattle.class.proofs.Classes.{by_paper}
 use Rattle.loose.proofs.Ids.{too_few, nothing_behind, by_next}

@@ -1,12 +1,8 @@
 -- `loose::past_spaces` meets its contract: the spaces from i on end where the spaces from the start on end.
-use mathlib.Core.Path.{◌≡◌, refl, sym, ◌∙◌}
+use mathlib.Core.Path.{◌≡◌}
 use Prim.Native.Nat.{◌+◌, ◌-◌}
-use native.Mathlib.Omega.{arith}
-use borrow.Author.Rules.{rules}
-use borrow.Author.Tests.{eq-eqb, ne_eqb}
 use lib.ListN.{length, drop}
 use Rattle.parse.specs.Run.{span}
-use Rattle.parse.proofs.Runs.{span_end, span_stop, span_go}
 use Rattle.loose.specs.Loose.{is_space}
 use Rattle.loose.proofs.past_spaces.Given as goal
 

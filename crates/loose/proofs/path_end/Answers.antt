@@ -1,13 +1,11 @@
 -- `loose::path_end` meets its contract: the path from i on ends where the path from the start on ends.
-use mathlib.Core.Path.{◌≡◌, refl, sym, ap, ◌∙◌}
+use mathlib.Core.Path.{refl, sym, ap, ◌∙◌}
 use mathlib.Core.Bool.{not}
-use Prim.Native.Nat.{◌+◌, ◌-◌}
 use native.Mathlib.Omega.{arith}
 use borrow.Author.Rules.{rules}
-use lib.ListN.{length, drop}
 use Rattle.class.specs.Class.{classes_of}
 use Rattle.parse.proofs.Runs.{span_end, span_stop, span_go}
-use Rattle.loose.specs.Loose.{ends_path, path_len}
+use Rattle.loose.specs.Loose.{ends_path}
 use Rattle.loose.proofs.path_end.Goals as goal
 
 pub loop-i-init : goal.loop-i-init

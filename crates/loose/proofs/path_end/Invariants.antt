@@ -1,13 +1,9 @@
 -- `loose::path_end` meets its contract: the path from i on ends where the path from the start on ends.
-use mathlib.Core.Path.{◌≡◌, refl, sym, ap, ◌∙◌}
-use mathlib.Core.Bool.{not}
+use mathlib.Core.Path.{◌≡◌}
 use Prim.Native.Nat.{◌+◌, ◌-◌}
-use native.Mathlib.Omega.{arith}
-use borrow.Author.Rules.{rules}
 use lib.ListN.{length, drop}
 use Rattle.class.specs.Class.{classes_of}
-use Rattle.parse.proofs.Runs.{span_end, span_stop, span_go}
-use Rattle.loose.specs.Loose.{ends_path, path_len}
+use Rattle.loose.specs.Loose.{path_len}
 use Rattle.loose.proofs.path_end.Given as goal
 
 abbrev pub invariant-loop-i : goal.invariant-loop-i

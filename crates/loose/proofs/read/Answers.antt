@@ -1,6 +1,5 @@
 -- `loose::read` meets its contract: 1 and 17 first, then the rest.
 use mathlib.Core.Path.{sym, ap, ◌∙◌}
-use borrow.Author.Rules.{rules}
 use Rattle.loose.specs.declared.LooseAnswer.TheVariants.{Done}
 use Rattle.loose.specs.Loose.{loose_answer}
 use Rattle.loose.proofs.read.Goals as goal

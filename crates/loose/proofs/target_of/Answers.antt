@@ -1,6 +1,5 @@
 -- `loose::target_of` meets its contract: the first bytes of all that stand behind a place.
 use native.Mathlib.Nat.{sub-zero}
-use borrow.Author.Rules.{rules}
 use Rattle.parse.proofs.Slices.{rest_is}
 use Rattle.loose.proofs.target_of.Goals as goal
 

@@ -1,5 +1,5 @@
 -- `merge::merge_with_digits` meets its contract: by what is found of the edit list; once it is ready, the front of the index is the edits in name order.
-use mathlib.Core.Path.{◌≡◌, refl, sym, ap, ◌∙◌}
+use mathlib.Core.Path.{◌≡◌, sym, ap, ◌∙◌}
 use mathlib.Core.List.{List}
 use Prim.Native.Nat.{ℕ, ◌-◌, ◌≤◌}
 use native.Mathlib.Nat.{sub-zero}
@@ -10,7 +10,6 @@ use Rattle.edits.specs.declared.list.Prepared.{Prepared}
 use Rattle.edits.specs.declared.list.Prepared.TheVariants.{Ready}
 use Rattle.edits.specs.List.{edits_of, places_of, prepared_of, index_after}
 use Rattle.merge.specs.Override.{edits_at}
-use Rattle.merge.specs.declared.Merged.{Merged}
 use Rattle.merge.specs.Merge.{new_file, output_by, old_entries, judged, edits_in_order, listed, merge_of, output_of}
 use Rattle.merge.specs.Splice.{Rising}
 use Rattle.merge.proofs.Answers.{list_refused}

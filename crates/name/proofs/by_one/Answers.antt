@@ -29,7 +29,7 @@ returns-then-lock_before c =
     rw (c.loop-i.invariant, locked_at, c.if-b-eq47.true, lock, and-false)
 
 -- a byte before which no component ends with `.lock`: `.lock` does not stand before it, or it is no slash
-unlocked-Joined-else-b-eq47 : (c : goal.Joined-else-b-eq47) → 
+unlocked-Joined-else-b-eq47 : (c : goal.Joined-else-b-eq47) →
     let s = c.args.s.now in
     (eqb (get_or s c.loop-i.i 0) 47 && lock_before s c.loop-i.i) ≡ false
 unlocked-Joined-else-b-eq47 c = elim c.else-b-eq47.branch [ else-b-eq47-via-then-b-eq47+else-lock_before w ↦ rw (sym w.lock_before.ensures ∙ w.if-lock_before.false, and-false) | else-b-eq47-via-else-b-eq47 w ↦ rw (ne_eqb _ _ w.if-b-eq47.false) ]

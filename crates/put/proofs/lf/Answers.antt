@@ -14,24 +14,18 @@ pub slice_bounds-bytes-end : goal.slice_bounds-bytes-end
 slice_bounds-bytes-end c =
     piece_fits c.args.src.now c.loop-at.from c.next-end.result c.loop-at.invariant.0 c.next-end.ensures
 
-room-Then-src-end : (c : goal.Then-src-end) → length c.loop-at.out ≤ 18446744073709551615
-room-Then-src-end c = omega (arith, c.well_formed, c.loop-at.invariant.1)
-
 pub returns-then-src-end : goal.returns-then-src-end
 returns-then-src-end c =
+    let l = c.loop-at in
+    let room : length l.out ≤ 18446744073709551615 = omega (arith, c.well_formed, l.invariant.1) in
     let last =
-    piece_last c.args.src.now c.loop-at.from c.next-end.result c.loop-at.invariant.0 c.next-end.ensures
-    c.loop-at.out _ c.loop-at.to _ (room-Then-src-end c) c.bytes-to.ensures c.if-src-end.true
+    piece_last c.args.src.now l.from c.next-end.result l.invariant.0 c.next-end.ensures l.out _ l.to _ room c.bytes-to.ensures c.if-src-end.true
     in
-    (last.0 ∙ c.loop-at.invariant.2, last.1 ∙ c.loop-at.invariant.3)
-
-room-Else-src-end : (c : goal.Else-src-end) → length c.loop-at.out ≤ 18446744073709551615
-room-Else-src-end c = omega (arith, c.well_formed, c.loop-at.invariant.1)
+    (last.0 ∙ l.invariant.2, last.1 ∙ l.invariant.3)
 
 pub loop-at-preserved : goal.loop-at-preserved
 loop-at-preserved c =
-    let t =
-    piece_turn c.args.src.now c.loop-at.from c.next-end.result c.loop-at.invariant.0 c.next-end.ensures
-    c.loop-at.out _ c.loop-at.to _ (room-Else-src-end c) c.bytes-to.ensures
-    in
-    (search rules, c.bytes-to.auto.out ∙ c.loop-at.invariant.1, t.0 ∙ c.loop-at.invariant.2, t.1 ∙ c.loop-at.invariant.3)
+    let l = c.loop-at in
+    let room : length l.out ≤ 18446744073709551615 = omega (arith, c.well_formed, l.invariant.1) in
+    let t = piece_turn c.args.src.now l.from c.next-end.result l.invariant.0 c.next-end.ensures l.out _ l.to _ room c.bytes-to.ensures in
+    (search rules, c.bytes-to.auto.out ∙ l.invariant.1, t.0 ∙ l.invariant.2, t.1 ∙ l.invariant.3)

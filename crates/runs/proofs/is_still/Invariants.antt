@@ -1,11 +1,8 @@
 -- `runs::is_still` meets its contract: what is left decides as long as nothing has.
-use mathlib.Core.Path.{◌≡◌, refl, sym, ◌∙◌}
-use mathlib.Core.List.{List}
-use Prim.Native.Nat.{ℕ, ◌+◌, ◌*◌, ◌-◌, ◌≤◌, ◌<◌}
-use lib.ListN.{get_or, length, drop}
+use mathlib.Core.Path.{◌≡◌}
+use Prim.Native.Nat.{◌*◌, ◌-◌, ◌≤◌}
+use lib.ListN.{length, drop}
 use Rattle.runs.specs.Runs.{is_still}
-use Rattle.runs.proofs.Still.{still_end, still_update, still_run, still_on}
-use borrow.Author.Rules.{rules}
 use Rattle.runs.proofs.is_still.Given as goal
 
 abbrev pub invariant-loop-j : goal.invariant-loop-j

@@ -6,7 +6,6 @@ use native.Mathlib.Omega.{arith}
 use lib.ListN.{set, length-set}
 use Rattle.put.specs.Put.{over}
 use Rattle.put.proofs.Laws.{over_beyond, over_byte, over_twice, length_over}
-use borrow.Author.Rules.{rules}
 use Rattle.runs.proofs.mark.Goals as goal
 
 pub returns-then-marks-at : goal.returns-then-marks-at

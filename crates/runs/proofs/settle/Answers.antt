@@ -1,8 +1,8 @@
 -- `runs::settle` meets its contract: the edits up to the first of a greater name are settled, one after another.
-use mathlib.Core.Path.{◌≡◌, refl, sym, ap, ◌∙◌}
+use mathlib.Core.Path.{◌≡◌, refl, ◌∙◌}
 use mathlib.Core.List.{List}
 use Prim.Native.Nat.{ℕ, ◌<◌}
-use lib.ListN.{get_or, length, drop}
+use lib.ListN.{length, drop}
 use Rattle.compare.specs.declared.order.Order.{Order}
 use Rattle.compare.specs.Order.{order_of}
 use Rattle.parts.specs.Parts.{edit_name}

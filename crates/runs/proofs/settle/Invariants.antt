@@ -1,13 +1,10 @@
 -- `runs::settle` meets its contract: the edits up to the first of a greater name are settled, one after another.
-use mathlib.Core.Path.{◌≡◌, refl, sym, ap, ◌∙◌}
+use mathlib.Core.Path.{◌≡◌}
 use mathlib.Core.List.{List}
-use Prim.Native.Nat.{ℕ, ◌-◌, ◌<◌}
-use lib.ListN.{get_or, length, drop}
-use Rattle.compare.specs.Order.{order_of}
-use Rattle.parts.specs.Parts.{edit_name}
+use Prim.Native.Nat.{ℕ, ◌-◌}
+use lib.ListN.{length, drop}
 use Rattle.runs.specs.Runs.{Run, settles}
-use Rattle.runs.proofs.Marks.{Going, begin, ends, ends_with, goes_on, settles_end, settles_less, settles_equal, settles_greater}
-use borrow.Author.Rules.{rules}
+use Rattle.runs.proofs.Marks.{Going}
 use Rattle.runs.proofs.settle.Given as goal
 
 abbrev left : List ℕ → List ℕ → List ℕ → ℕ → ℕ → ℕ → List Run

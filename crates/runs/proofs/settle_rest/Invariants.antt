@@ -1,11 +1,10 @@
 -- `runs::settle_rest` meets its contract: the edits that are left all get the same empty run.
-use mathlib.Core.Path.{◌≡◌, refl, ◌∙◌}
+use mathlib.Core.Path.{◌≡◌}
 use Prim.Native.Nat.{ℕ, ◌-◌}
 use mathlib.Core.List.{List}
 use lib.ListN.{length, drop}
 use Rattle.runs.specs.Runs.{Run, at_end}
-use Rattle.runs.proofs.Marks.{Going, begin, ends, goes_on, at_end_none, at_end_one}
-use borrow.Author.Rules.{rules}
+use Rattle.runs.proofs.Marks.{Going}
 use Rattle.runs.proofs.settle_rest.Given as goal
 
 abbrev left : List ℕ → ℕ → ℕ → List Run

@@ -6,11 +6,10 @@ use native.Mathlib.Numerals.{add-one}
 use native.Mathlib.Omega.{arith}
 use lib.ListN.{length, drop}
 use Rattle.class.specs.Class.{paper}
-use Rattle.checks.specs.declared.Turn.{Turn}
 use Rattle.checks.specs.declared.Turn.TheVariants.{End, On, Refused}
 use Rattle.checks.specs.Check.{judge_body}
 use Rattle.iter.proofs.ItemRead.{goes_on, named, named_is}
-use Rattle.checks.proofs.CheckTurns.{Spot, Turned, turn_at, turned, judged}
+use Rattle.checks.proofs.CheckTurns.{Spot, turned, judged}
 use Rattle.put.specs.Put.{over}
 use Rattle.runs.specs.Runs.{settles, marks_of}
 use Rattle.runs.proofs.RunTurns.{marked_end, marked_stop, marked_on}

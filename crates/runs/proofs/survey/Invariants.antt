@@ -1,22 +1,12 @@
 -- `runs::survey` meets its contract: the check goes as in `checks`, and beside it each record settles its edits.
-use mathlib.Core.Path.{◌≡◌, refl, sym, ap, ◌∙◌}
-use mathlib.Core.List.{List, []}
-use Prim.Native.Nat.{ℕ, ◌+◌, ◌*◌, ◌-◌, ◌≤◌}
-use native.Mathlib.Numerals.{add-one}
-use native.Mathlib.Omega.{arith}
+use mathlib.Core.Path.{◌≡◌}
+use mathlib.Core.List.{[]}
+use Prim.Native.Nat.{◌-◌, ◌≤◌}
 use lib.ListN.{length, drop}
 use Rattle.class.specs.Class.{paper}
-use Rattle.decode.specs.declared.reference.Record.{Record}
-use Rattle.checks.specs.declared.Turn.{Turn}
-use Rattle.checks.specs.declared.Turn.TheVariants.{On}
 use Rattle.iter.specs.Items.{items}
 use Rattle.checks.specs.Check.{judge, judge_body}
-use Rattle.iter.proofs.ItemRead.{goes_on, named, named_is}
-use Rattle.checks.proofs.CheckTurns.{Spot, Turned, turned, judged_after, judged}
-use Rattle.put.specs.Put.{over}
-use Rattle.runs.specs.Runs.{Run, settles, marks_of}
-use Rattle.runs.proofs.RunTurns.{marked, marked_end, marked_stop, marked_on}
-use borrow.Author.Rules.{rules}
+use Rattle.runs.proofs.RunTurns.{marked}
 use Rattle.runs.proofs.survey.Given as goal
 
 abbrev pub invariant-loop-marks : goal.invariant-loop-marks

@@ -8,7 +8,6 @@ use Rattle.class.specs.Class.{paper}
 use Rattle.compare.specs.Order.{order_of}
 use Rattle.probe.proofs.Shapes.{shape_fits}
 use Rattle.search.specs.Search.{probed_of}
-use borrow.Author.Rules.{rules}
 use Rattle.search.proofs.probe.Goals as goal
 
 pub overflow_add-from : goal.overflow_add-from

@@ -1,17 +1,16 @@
 -- `search::search` meets its contract: what is left to halve decides the whole.
 use mathlib.Core.Path.{◌≡◌, sym, ap, ◌∙◌}
 use mathlib.Core.Bool.{Bool}
-use Prim.Native.Nat.{ℕ, ◌-◌}
-use lib.ListN.{length, drop}
+use Prim.Native.Nat.{ℕ}
+use lib.ListN.{drop}
 use Rattle.compare.specs.declared.order.Order.{Order}
 use Rattle.class.specs.Class.{paper}
 use Rattle.parse.proofs.Slices.{rest_is}
 use Rattle.search.specs.declared.Halved.{Halved}
 use Rattle.search.specs.declared.Halved.TheVariants.{Hit, Miss}
 use Rattle.search.specs.declared.Probed.{Probed}
-use Rattle.search.specs.Search.{middle, probed_of, probed_at, order_at, failure_at, placed, search_of}
-use Rattle.search.proofs.Halving.{Going, at_first, ended, found_it, to_right, to_left}
-use borrow.Author.Rules.{rules}
+use Rattle.search.specs.Search.{middle, probed_of, probed_at, placed, search_of}
+use Rattle.search.proofs.Halving.{at_first, ended, found_it, to_right, to_left}
 use Rattle.search.proofs.search.Goals as goal
 
 pub loop-high-init : goal.loop-high-init
@@ -24,7 +23,7 @@ abbrev failure-In-Less : (c : goal.In-Less) → ℕ → Bool
 failure-In-Less c place = ((probes-In-Less c) place).failed
 
 said-In-Less : (c : goal.In-Less) → c.probe-probed.result ≡ (probes-In-Less c) (middle c.loop-high.low c.loop-high.high)
-said-In-Less c =    let a = c.args in
+said-In-Less c = let a = c.args in
     let start = c.start_of-start in
     let here = c.between.ensures ∙ rest_is a.s.now start.result ∙ ap (λ k. drop k a.s.now) start.ensures in
     c.probe-probed.ensures ∙ ap (λ x. probed_of paper a.n x a.wanted.now) here
@@ -49,7 +48,7 @@ abbrev failure-In-Greater : (c : goal.In-Greater) → ℕ → Bool
 failure-In-Greater c place = ((probes-In-Greater c) place).failed
 
 said-In-Greater : (c : goal.In-Greater) → c.probe-probed.result ≡ (probes-In-Greater c) (middle c.loop-high.low c.loop-high.high)
-said-In-Greater c =    let a = c.args in
+said-In-Greater c = let a = c.args in
     let start = c.start_of-start in
     let here = c.between.ensures ∙ rest_is a.s.now start.result ∙ ap (λ k. drop k a.s.now) start.ensures in
     c.probe-probed.ensures ∙ ap (λ x. probed_of paper a.n x a.wanted.now) here
@@ -98,7 +97,7 @@ abbrev failure-In-Equal : (c : goal.In-Equal) → ℕ → Bool
 failure-In-Equal c place = ((probes-In-Equal c) place).failed
 
 said-In-Equal : (c : goal.In-Equal) → c.probe-probed.result ≡ (probes-In-Equal c) (middle c.loop-high.low c.loop-high.high)
-said-In-Equal c =    let a = c.args in
+said-In-Equal c = let a = c.args in
     let start = c.start_of-start in
     let here = c.between.ensures ∙ rest_is a.s.now start.result ∙ ap (λ k. drop k a.s.now) start.ensures in
     c.probe-probed.ensures ∙ ap (λ x. probed_of paper a.n x a.wanted.now) here

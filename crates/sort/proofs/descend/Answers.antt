@@ -1,9 +1,5 @@
 -- `sort::descend` meets its contract: the entry comes down from one place to the next.
-use Prim.Native.Nat.{◌-◌}
-use Rattle.places.specs.Order.{comes_first}
-use Rattle.sort.specs.Heap.{Down}
 use Rattle.sort.proofs.Descending.{down_start, down_step}
-use borrow.Author.Rules.{rules}
 use Rattle.sort.proofs.descend.Goals as goal
 
 pub loop-k-init : goal.loop-k-init

@@ -2,8 +2,6 @@
 use Prim.Native.Nat.{◌-◌}
 use Rattle.places.specs.Order.{comes_first}
 use Rattle.sort.specs.Heap.{Down}
-use Rattle.sort.proofs.Descending.{down_start, down_step}
-use borrow.Author.Rules.{rules}
 use Rattle.sort.proofs.descend.Given as goal
 
 abbrev pub invariant-loop-k : goal.invariant-loop-k

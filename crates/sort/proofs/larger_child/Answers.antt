@@ -6,7 +6,6 @@ use lib.ListN.{get_or}
 use Rattle.sort.proofs.Heaps.{only_child, larger_of_two}
 use Rattle.sort.proofs.Orders.{not_back}
 use Rattle.sort.proofs.Theorems.{places_are_ordered}
-use borrow.Author.Rules.{rules}
 use Rattle.sort.proofs.larger_child.Goals as goal
 
 pub returns-then-n-right : goal.returns-then-n-right

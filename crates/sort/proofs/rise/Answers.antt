@@ -2,11 +2,8 @@
 use mathlib.Core.Path.{sym, ◌∙◌}
 use Prim.Native.Nat.{◌-◌, ◌/◌}
 use native.Mathlib.Omega.{arith}
-use borrow.Author.Tests.{not-true, not-false}
-use Rattle.places.specs.Order.{comes_first}
-use Rattle.sort.proofs.Rising.{Up, up_start, up_step, up_stop, up_end}
+use Rattle.sort.proofs.Rising.{up_start, up_step, up_stop, up_end}
 use Rattle.sort.proofs.Theorems.{places_are_ordered}
-use borrow.Author.Rules.{rules}
 use Rattle.sort.proofs.rise.Goals as goal
 
 pub loop-k-init : goal.loop-k-init

@@ -1,6 +1,5 @@
 -- `sort::sink` meets its contract: what comes down and what rises are exchanges.
 use Rattle.sort.proofs.Swaps.{moved_twice}
-use borrow.Author.Rules.{rules}
 use Rattle.sort.proofs.sink.Goals as goal
 
 pub returns : goal.returns

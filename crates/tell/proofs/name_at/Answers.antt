@@ -6,7 +6,6 @@ use Rattle.parse.specs.declared.limit.IdKind.{IdKind}
 use Rattle.parse.specs.Limit.{digits_of}
 use Rattle.parse.proofs.Admitted.{few_digits}
 use Rattle.tell.specs.Told.{name_at}
-use borrow.Author.Rules.{rules}
 use Rattle.tell.proofs.name_at.Goals as goal
 
 is-In-Digits : (c : goal.In-Digits) → {which : IdKind} → c.digits.result ≡ which → digits_of c.args.kind ≡ which

@@ -1,7 +1,6 @@
 -- `tell::peeled_at` meets its contract.
 use borrow.Author.Tests.{eq-eqb, ne_eqb}
 use Rattle.tell.specs.Told.{peeled_at}
-use borrow.Author.Rules.{rules}
 use Rattle.tell.proofs.peeled_at.Goals as goal
 
 pub returns-then-peeled-eq0 : goal.returns-then-peeled-eq0

@@ -1,5 +1,4 @@
 -- `tell::refusal` meets its contract.
-use borrow.Author.Rules.{rules}
 use Rattle.tell.proofs.refusal.Goals as goal
 
 pub returns-in-BadHeader : goal.returns-in-BadHeader

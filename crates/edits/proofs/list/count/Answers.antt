@@ -1,13 +1,12 @@
 -- `edits::list::count` meets its contract: the edits from the place reached on, counted after those before, decide the whole.
 use mathlib.Core.Path.{◌≡◌, refl, sym, ap, ◌∙◌}
 use mathlib.Core.List.{List}
-use Prim.Native.Nat.{ℕ, suc, ◌+◌, ◌-◌, ◌≤◌, ◌<◌}
+use Prim.Native.Nat.{ℕ, suc, ◌+◌, ◌-◌, ◌<◌}
 use native.Mathlib.Omega.{arith}
 use lib.ListN.{length, take, drop}
 use Rattle.class.specs.Class.{paper}
 use Rattle.parse.proofs.Slices.{rest_is}
 use Rattle.edit.specs.declared.EditReading.{EditReading}
-use Rattle.edit.specs.declared.EditReading.TheVariants.{Good, Bad}
 use Rattle.edits.specs.declared.list.Edits.TheVariants.{Count}
 use Rattle.edit.specs.Edit.{edit_of}
 use Rattle.edits.specs.List.{Listed, edits_from, edits_of, counted}

@@ -1,18 +1,9 @@
 -- `edits::list::count` meets its contract: the edits from the place reached on, counted after those before, decide the whole.
-use mathlib.Core.Path.{◌≡◌, refl, sym, ap, ◌∙◌}
-use mathlib.Core.List.{List}
-use Prim.Native.Nat.{ℕ, suc, ◌+◌, ◌-◌, ◌≤◌, ◌<◌}
-use native.Mathlib.Omega.{arith}
-use lib.ListN.{length, drop}
-use Rattle.class.specs.Class.{Classes, paper}
-use Rattle.parse.proofs.Slices.{rest_is}
-use Rattle.edit.specs.declared.EditReading.TheVariants.{Good}
-use Rattle.edits.specs.declared.list.Edits.TheVariants.{Count}
-use Rattle.edit.specs.Edit.{edit_of}
-use Rattle.edits.specs.List.{Listed, edits_from, edits_of, counted}
-use Rattle.edit.proofs.Parts.{edit_goes_on}
-use Rattle.edits.proofs.Lists.{from_end, from_many, from_bad, from_good, counted_onto}
-use borrow.Author.Rules.{rules}
+use mathlib.Core.Path.{◌≡◌}
+use Prim.Native.Nat.{◌-◌, ◌≤◌}
+use lib.ListN.{length}
+use Rattle.class.specs.Class.{paper}
+use Rattle.edits.specs.List.{edits_from, edits_of, counted}
 use Rattle.edits.proofs.list.count.Given as goal
 
 abbrev pub invariant-loop-place : goal.invariant-loop-place

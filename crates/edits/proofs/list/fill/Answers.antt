@@ -1,15 +1,14 @@
 -- `edits::list::fill` meets its contract: the places done stand in the index, and the rest of the list holds those that are left.
 use mathlib.Core.Path.{◌≡◌, sym, ap, ◌∙◌}
-use mathlib.Core.List.{List}
-use Prim.Native.Nat.{ℕ, ◌+◌, ◌-◌, ◌≤◌, ◌<◌}
+use Prim.Native.Nat.{◌+◌, ◌≤◌, ◌<◌}
 use native.Mathlib.Omega.{arith}
 use lib.ListN.{length, drop, length-set}
-use Rattle.class.specs.Class.{Classes, paper}
+use Rattle.class.specs.Class.{paper}
 use Rattle.parse.proofs.Slices.{rest_is}
 use Rattle.edit.specs.declared.EditReading.TheVariants.{Good}
 use Rattle.edit.specs.Edit.{edit_of}
 use Rattle.edit.proofs.Parts.{edit_goes_on}
-use Rattle.edits.proofs.Filling.{Filling, filling_first, filling_end, no_bad, room_here, filling_next}
+use Rattle.edits.proofs.Filling.{filling_first, filling_end, no_bad, room_here, filling_next}
 use borrow.Author.Rules.{rules}
 use Rattle.edits.proofs.list.fill.Goals as goal
 
@@ -45,12 +44,11 @@ pub loop-place-smaller : goal.loop-place-smaller
 loop-place-smaller c = omega (arith, (goes_on-In-Good c))
 
 pub loop-place-preserved : goal.loop-place-preserved
-loop-place-preserved c =
-    (
-      simp length-set c.loop-place.invariant.0,
-      omega (arith, (goes_on-In-Good c), c.loop-place.invariant.1),
-      filling_next paper c.args.n c.args.list.now c.args.index.now c.loop-place.index c.loop-place.place c.loop-place.i c.loop-place.invariant.2 (inside-In-Good c) c.in-Good.size (is_edit-In-Good c) c.requires.2,
-    )
+loop-place-preserved c = (
+  simp length-set c.loop-place.invariant.0,
+  omega (arith, (goes_on-In-Good c), c.loop-place.invariant.1),
+  filling_next paper c.args.n c.args.list.now c.args.index.now c.loop-place.index c.loop-place.place c.loop-place.i c.loop-place.invariant.2 (inside-In-Good c) c.in-Good.size (is_edit-In-Good c) c.requires.2,
+)
 
 pub shape_of-index-in-Bad : goal.shape_of-index-in-Bad
 shape_of-index-in-Bad c = c.loop-place.invariant.0

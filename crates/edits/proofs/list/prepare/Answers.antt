@@ -1,18 +1,14 @@
 -- `edits::list::prepare` meets its contract.
-use mathlib.Core.Path.{◌≡◌, sym, ap, ◌∙◌}
-use mathlib.Core.Bool.{false}
-use mathlib.Core.List.{List, ◌++◌}
-use Prim.Native.Nat.{ℕ, ◌≤◌}
+use mathlib.Core.Path.{sym, ap, ◌∙◌}
+use mathlib.Core.List.{◌++◌}
 use native.Mathlib.Omega.{arith}
-use lib.ListN.{length, take, drop}
+use lib.ListN.{length, drop}
 use borrow.Author.Tests.{ltb-false}
 use Rattle.class.specs.Class.{paper}
 use Rattle.parse.specs.Limit.{over_limit}
-use Rattle.edits.specs.declared.list.Edits.TheVariants.{Count}
-use Rattle.edits.specs.List.{edits_of, counted, places_of, in_order, twins_of}
+use Rattle.edits.specs.List.{edits_of, places_of, in_order, twins_of}
 use Rattle.edits.proofs.Ordering.{front, behind}
 use Rattle.edits.proofs.Outcomes.{counted_count, comes_large, comes_bad, comes_short, comes_ready}
-use borrow.Author.Rules.{rules}
 use Rattle.edits.proofs.list.prepare.Goals as goal
 
 pub returns-then-over_limit : goal.returns-then-over_limit

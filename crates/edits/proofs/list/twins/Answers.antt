@@ -1,7 +1,6 @@
 -- `edits::list::twins` meets its contract.
 use mathlib.Core.Path.{sym, ◌∙◌}
 use Rattle.edits.specs.List.{twins_of}
-use borrow.Author.Rules.{rules}
 use Rattle.edits.proofs.list.twins.Goals as goal
 
 pub returns-in-At : goal.returns-in-At

@@ -2,7 +2,6 @@
 use mathlib.Core.Path.{sym, ap, ◌∙◌}
 use Rattle.find.specs.declared.lookup.LookupAnswer.TheVariants.{Done}
 use Rattle.find.specs.Lookup.{lookup_answer}
-use borrow.Author.Rules.{rules}
 use Rattle.find.proofs.lookup.find.Goals as goal
 
 pub returns-in-Digits : goal.returns-in-Digits

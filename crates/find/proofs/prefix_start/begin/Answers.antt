@@ -2,7 +2,6 @@
 use mathlib.Core.Path.{sym, ap, ◌∙◌}
 use Rattle.find.specs.declared.prefix_start.PrefixStartAnswer.TheVariants.{Done}
 use Rattle.find.specs.PrefixStart.{prefix_start_answer}
-use borrow.Author.Rules.{rules}
 use Rattle.find.proofs.prefix_start.begin.Goals as goal
 
 pub returns-in-Digits : goal.returns-in-Digits

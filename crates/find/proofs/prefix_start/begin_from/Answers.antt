@@ -7,7 +7,6 @@ use Rattle.parse.proofs.Slices.{rest_is}
 use Rattle.start.specs.Start.{start_of}
 use Rattle.start.proofs.Begins.{start_inside}
 use Rattle.find.specs.PrefixStart.{prefix_start_from}
-use borrow.Author.Rules.{rules}
 use Rattle.find.proofs.prefix_start.begin_from.Goals as goal
 
 pub overflow_add-result : goal.overflow_add-result

@@ -3,7 +3,6 @@ use mathlib.Core.Path.{sym, ◌∙◌}
 use Rattle.class.specs.Class.{paper}
 use Rattle.find.specs.PrefixStart.{prefix_start_of}
 use Rattle.find.proofs.Places.{search_inside}
-use borrow.Author.Rules.{rules}
 use Rattle.find.proofs.prefix_start.begin_with_digits.Goals as goal
 
 pub begin_from-requires : goal.begin_from-requires

@@ -13,7 +13,7 @@ use Rattle.iter.proofs.step.next.Goals as goal
 tells-In-End : (c : goal.In-End) (a : StepAnswer) → c.next_on_line-answer.result ≡ a
     → on_line (line_told c.args.s.now c.args.place) a
     ≡ plain_answer c.args.kind c.args.s.now c.args.place
-tells-In-End c a e =    let x = c.args in
+tells-In-End c a e = let x = c.args in
     ap (on_line (line_told x.s.now x.place)) (sym e ∙ c.next_on_line-answer.ensures) ∙ on_line_lem x.kind [] x.s.now x.place _ 0 ∙ plain_is x.kind x.s.now x.place
 
 pub returns-in-End : goal.returns-in-End
@@ -25,7 +25,7 @@ returns-in-End c =
 tells-In-Good : (c : goal.In-Good) (a : StepAnswer) → c.next_on_line-answer.result ≡ a
     → on_line (line_told c.args.s.now c.args.place) a
     ≡ plain_answer c.args.kind c.args.s.now c.args.place
-tells-In-Good c a e =    let x = c.args in
+tells-In-Good c a e = let x = c.args in
     ap (on_line (line_told x.s.now x.place)) (sym e ∙ c.next_on_line-answer.ensures) ∙ on_line_lem x.kind [] x.s.now x.place _ 0 ∙ plain_is x.kind x.s.now x.place
 
 pub returns-in-Good : goal.returns-in-Good
@@ -37,7 +37,7 @@ returns-in-Good c =
 tells-After-line_number : (c : goal.After-line_number) (a : StepAnswer) → c.next_on_line-answer.result ≡ a
     → on_line (line_told c.args.s.now c.args.place) a
     ≡ plain_answer c.args.kind c.args.s.now c.args.place
-tells-After-line_number c a e =    let x = c.args in
+tells-After-line_number c a e = let x = c.args in
     ap (on_line (line_told x.s.now x.place)) (sym e ∙ c.next_on_line-answer.ensures) ∙ on_line_lem x.kind [] x.s.now x.place _ 0 ∙ plain_is x.kind x.s.now x.place
 
 pub returns-in-Error : goal.returns-in-Error
@@ -48,7 +48,7 @@ returns-in-Error c =
 tells-In-UnknownKind : (c : goal.In-UnknownKind) (a : StepAnswer) → c.next_on_line-answer.result ≡ a
     → on_line (line_told c.args.s.now c.args.place) a
     ≡ plain_answer c.args.kind c.args.s.now c.args.place
-tells-In-UnknownKind c a e =    let x = c.args in
+tells-In-UnknownKind c a e = let x = c.args in
     ap (on_line (line_told x.s.now x.place)) (sym e ∙ c.next_on_line-answer.ensures) ∙ on_line_lem x.kind [] x.s.now x.place _ 0 ∙ plain_is x.kind x.s.now x.place
 
 pub returns-in-UnknownKind : goal.returns-in-UnknownKind
@@ -58,7 +58,7 @@ returns-in-UnknownKind c = let e = c.in-UnknownKind.is in e ∙ (tells-In-Unknow
 tells-In-TooLarge : (c : goal.In-TooLarge) (a : StepAnswer) → c.next_on_line-answer.result ≡ a
     → on_line (line_told c.args.s.now c.args.place) a
     ≡ plain_answer c.args.kind c.args.s.now c.args.place
-tells-In-TooLarge c a e =    let x = c.args in
+tells-In-TooLarge c a e = let x = c.args in
     ap (on_line (line_told x.s.now x.place)) (sym e ∙ c.next_on_line-answer.ensures) ∙ on_line_lem x.kind [] x.s.now x.place _ 0 ∙ plain_is x.kind x.s.now x.place
 
 pub returns-in-TooLarge : goal.returns-in-TooLarge

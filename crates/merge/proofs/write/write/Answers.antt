@@ -1,8 +1,8 @@
 -- `merge::write::write` meets its contract: what is left of the new file, put where the writing has come to, makes what is wanted.
 use mathlib.Core.Path.{sym, ap, ◌∙◌}
-use Prim.Native.Nat.{◌*◌, ◌≤◌, ◌<◌}
+use Prim.Native.Nat.{◌≤◌, ◌<◌}
 use native.Mathlib.Omega.{arith}
-use lib.ListN.{length, get_or}
+use lib.ListN.{length}
 use Rattle.parse.proofs.Slices.{rest_is}
 use Rattle.put.specs.Cr.{without_cr}
 use Rattle.put.proofs.Laws.{puts_then}

@@ -1,16 +1,9 @@
 -- `merge::write::write` meets its contract: what is left of the new file, put where the writing has come to, makes what is wanted.
-use mathlib.Core.Path.{◌≡◌, sym, ap, ◌∙◌}
-use mathlib.Core.List.{List}
-use Prim.Native.Nat.{ℕ, ◌*◌, ◌-◌, ◌≤◌, ◌<◌}
-use native.Mathlib.Omega.{arith}
-use lib.ListN.{length, get_or}
-use Rattle.parse.proofs.Slices.{rest_is}
+use mathlib.Core.Path.{◌≡◌}
+use Prim.Native.Nat.{◌-◌}
+use lib.ListN.{length}
 use Rattle.put.specs.Put.{over, place_behind}
-use Rattle.put.specs.Cr.{without_cr}
-use Rattle.put.proofs.Laws.{puts_then}
-use Rattle.merge.specs.Splice.{spliced_file}
-use Rattle.merge.proofs.Splice.{puts_as, old_bytes, spliced_from, spliced_end, put_turn}
-use borrow.Author.Rules.{rules}
+use Rattle.merge.proofs.Splice.{spliced_from}
 use Rattle.merge.proofs.write.write.Given as goal
 
 abbrev pub invariant-loop-j : goal.invariant-loop-j

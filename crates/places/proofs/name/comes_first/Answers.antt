@@ -3,7 +3,6 @@ use mathlib.Core.Path.{sym, ◌∙◌}
 use Rattle.compare.specs.declared.order.Order.TheVariants.{Less, Equal, Greater}
 use Rattle.places.specs.Name.{standing_name}
 use Rattle.places.proofs.Places.{before_by}
-use borrow.Author.Rules.{rules}
 use Rattle.places.proofs.name.comes_first.Goals as goal
 
 pub returns-in-Less : goal.returns-in-Less

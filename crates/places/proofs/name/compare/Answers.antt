@@ -1,6 +1,5 @@
 -- `places::name::compare` meets its contract, layout by layout.
 use mathlib.Core.Path.{◌∙◌}
-use borrow.Author.Rules.{rules}
 use Rattle.places.proofs.name.compare.Goals as goal
 
 pub returns-in-Edit : goal.returns-in-Edit

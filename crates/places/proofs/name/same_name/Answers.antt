@@ -6,7 +6,6 @@ use Rattle.compare.specs.declared.order.Order.{Order}
 use Rattle.compare.specs.Prefix.{same}
 use Rattle.compare.proofs.Orders.{is_equal, same_by_order}
 use Rattle.places.specs.Name.{standing_name}
-use borrow.Author.Rules.{rules}
 use Rattle.places.proofs.name.same_name.Goals as goal
 
 abbrev name-In-Less : (c : goal.In-Less) → ℕ → List ℕ

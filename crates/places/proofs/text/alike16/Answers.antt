@@ -1,14 +1,12 @@
 -- `places::text::alike16` meets its contract: while all was alike, the bytes passed are alike and end no text.
 use mathlib.Core.Path.{◌≡◌, sym, ◌∙◌}
-use mathlib.Core.Bool.{true, not, ◌&&◌, false≢true}
-use Prim.Native.Nat.{◌+◌, ◌-◌, ◌≤◌}
+use mathlib.Core.Bool.{not, ◌&&◌, false≢true}
+use Prim.Native.Nat.{◌+◌}
 use native.Mathlib.Omega.{arith}
 use lib.Dec.{eqb}
-use lib.ListN.{length, get_or}
-use borrow.Author.Tests.{eqb-true, leb-true, not-true, not-false}
-use Rattle.places.specs.Letter.{Alike}
+use lib.ListN.{get_or}
+use borrow.Author.Tests.{eqb-true, leb-true, not-true}
 use Rattle.places.proofs.Texts.{alike_none, alike_more, both}
-use borrow.Author.Rules.{rules}
 use Rattle.places.proofs.text.alike16.Goals as goal
 
 pub returns-then-not-sixteen_left : goal.returns-then-not-sixteen_left

@@ -1,12 +1,10 @@
 -- `places::text::by_letter` meets its contract: the order from i on is the order from the start on.
-use mathlib.Core.Path.{◌≡◌, refl, sym, ◌∙◌}
-use Prim.Native.Nat.{◌-◌}
+use mathlib.Core.Path.{refl, sym, ◌∙◌}
 use native.Mathlib.Omega.{arith}
-use lib.ListN.{length, drop}
+use lib.ListN.{drop}
 use Rattle.places.specs.Name.{text_of}
 use Rattle.places.proofs.Strings.{smaller_letter, greater_letter, no_letter}
-use Rattle.places.proofs.Texts.{order_from, same_letter, some_letter}
-use borrow.Author.Rules.{rules}
+use Rattle.places.proofs.Texts.{same_letter, some_letter}
 use Rattle.places.proofs.text.by_letter.Goals as goal
 
 pub loop-at-init : goal.loop-at-init

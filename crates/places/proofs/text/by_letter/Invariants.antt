@@ -1,12 +1,8 @@
 -- `places::text::by_letter` meets its contract: the order from i on is the order from the start on.
-use mathlib.Core.Path.{◌≡◌, refl, sym, ◌∙◌}
+use mathlib.Core.Path.{◌≡◌}
 use Prim.Native.Nat.{◌-◌}
-use native.Mathlib.Omega.{arith}
-use lib.ListN.{length, drop}
-use Rattle.places.specs.Name.{text_of}
-use Rattle.places.proofs.Strings.{smaller_letter, greater_letter, no_letter}
-use Rattle.places.proofs.Texts.{order_from, same_letter, some_letter}
-use borrow.Author.Rules.{rules}
+use lib.ListN.{length}
+use Rattle.places.proofs.Texts.{order_from}
 use Rattle.places.proofs.text.by_letter.Given as goal
 
 abbrev pub invariant-loop-at : goal.invariant-loop-at

@@ -1,11 +1,7 @@
 -- `places::text::compare` meets its contract: sixteen bytes that are alike are skipped, the rest goes letter by letter.
-use mathlib.Core.Path.{◌≡◌, refl, sym, ◌∙◌}
-use Prim.Native.Nat.{◌-◌}
+use mathlib.Core.Path.{refl, sym, ◌∙◌}
 use native.Mathlib.Omega.{arith}
-use lib.ListN.{length}
-use borrow.Author.Tests.{not-false}
-use Rattle.places.proofs.Texts.{order_from, skip}
-use borrow.Author.Rules.{rules}
+use Rattle.places.proofs.Texts.{skip}
 use Rattle.places.proofs.text.compare.Goals as goal
 
 pub loop-i-init : goal.loop-i-init

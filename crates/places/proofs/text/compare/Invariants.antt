@@ -1,11 +1,8 @@
 -- `places::text::compare` meets its contract: sixteen bytes that are alike are skipped, the rest goes letter by letter.
-use mathlib.Core.Path.{◌≡◌, refl, sym, ◌∙◌}
+use mathlib.Core.Path.{◌≡◌}
 use Prim.Native.Nat.{◌-◌}
-use native.Mathlib.Omega.{arith}
 use lib.ListN.{length}
-use borrow.Author.Tests.{not-false}
-use Rattle.places.proofs.Texts.{order_from, skip}
-use borrow.Author.Rules.{rules}
+use Rattle.places.proofs.Texts.{order_from}
 use Rattle.places.proofs.text.compare.Given as goal
 
 abbrev pub invariant-loop-i : goal.invariant-loop-i

@@ -4,7 +4,6 @@ use native.Mathlib.Omega.{arith}
 use native.Mathlib.Numerals.{add-one}
 use Rattle.places.specs.Letter.{letter}
 use Rattle.places.proofs.Texts.{text_beyond, text_ended, text_goes}
-use borrow.Author.Rules.{rules}
 use Rattle.places.proofs.text.letter_at.Goals as goal
 
 pub returns-then-x-i : goal.returns-then-x-i

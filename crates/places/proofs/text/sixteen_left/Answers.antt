@@ -4,7 +4,6 @@ use Prim.Native.Nat.{◌+◌}
 use native.Mathlib.Omega.{arith}
 use lib.ListN.{length}
 use borrow.Author.Tests.{le-leb, lt-leb}
-use borrow.Author.Rules.{rules}
 use Rattle.places.proofs.text.sixteen_left.Goals as goal
 
 pub returns-then-x-lt16 : goal.returns-then-x-lt16

@@ -1,5 +1,6 @@
 -- `probe::shape::name_at_record_start` meets its contract.
 use mathlib.Core.Path.{sym, ◌∙◌}
+use native.Mathlib.Omega.{arith}
 use borrow.Author.Tests.{lt-ltb, le-ltb}
 use Rattle.probe.specs.Shape.{shape_of}
 use Rattle.probe.proofs.shape.name_at_record_start.Goals as goal
@@ -24,4 +25,4 @@ pub returns : goal.returns
 unfolding shape_of
 returns c =
     let space = sym c.past_byte.ensures ∙ c.in-At.is in
-    rw (space, sym c.until_line_end.ensures ∙ c.in-Ended.is, lt-ltb _ _ c.if-end-from.false)
+    rw (space, sym c.until_line_end.ensures ∙ c.in-Ended.is, lt-ltb c.in-At.from c.in-Ended.end (omega arith))

@@ -1,7 +1,6 @@
 -- `reply_file::head::header_reply` meets its contract: the layer's answer, told.
 use mathlib.Core.Path.{ap, ◌∙◌}
 use Rattle.reply_file.specs.Head.{header_reply}
-use borrow.Author.Rules.{rules}
 use Rattle.reply_file.proofs.head.header_reply.Goals as goal
 
 pub returns : goal.returns

@@ -1,7 +1,6 @@
 -- `reply_file::head::name_number` meets its contract.
 use mathlib.Core.Path.{sym, ◌∙◌}
 use Rattle.reply_file.specs.Head.{name_number}
-use borrow.Author.Rules.{rules}
 use Rattle.reply_file.proofs.head.name_number.Goals as goal
 
 pub returns-then-over_limit : goal.returns-then-over_limit

@@ -1,7 +1,6 @@
 -- `reply_file::verdict::check_reply` meets its contract: the layer's answer, told.
 use mathlib.Core.Path.{ap, ◌∙◌}
 use Rattle.reply_file.specs.Verdict.{check_reply}
-use borrow.Author.Rules.{rules}
 use Rattle.reply_file.proofs.verdict.check_reply.Goals as goal
 
 pub returns : goal.returns

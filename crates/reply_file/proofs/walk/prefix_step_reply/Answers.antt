@@ -2,7 +2,6 @@
 use mathlib.Core.Path.{sym, ap, ◌∙◌}
 use Rattle.reply_file.specs.Walk.{step_reply}
 use Rattle.reply_file.proofs.Near.{step_near}
-use borrow.Author.Rules.{rules}
 use Rattle.reply_file.proofs.walk.prefix_step_reply.Goals as goal
 
 pub step_told-requires : goal.step_told-requires

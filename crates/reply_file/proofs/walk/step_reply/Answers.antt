@@ -4,7 +4,6 @@ use mathlib.Core.List.{[]}
 use Rattle.line_number.specs.LineNumber.{line_number}
 use Rattle.reply_file.specs.Walk.{step_reply}
 use Rattle.reply_file.proofs.Near.{step_near}
-use borrow.Author.Rules.{rules}
 use Rattle.reply_file.proofs.walk.step_reply.Goals as goal
 
 pub step_told-requires : goal.step_told-requires

@@ -6,7 +6,6 @@ use Rattle.decode.specs.declared.reference.Record.{Record}
 use Rattle.iter.specs.declared.step.Step.TheVariants.{Good}
 use Rattle.tell.specs.Told.{Near}
 use Rattle.tell.proofs.Near.{told_near}
-use borrow.Author.Rules.{rules}
 use Rattle.reply_file.proofs.walk.step_told.Goals as goal
 
 pub returns-in-End : goal.returns-in-End

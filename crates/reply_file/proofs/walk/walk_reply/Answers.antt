@@ -4,7 +4,6 @@ use mathlib.Core.List.{[]}
 use Rattle.walker.specs.declared.Walked.{Walked}
 use Rattle.reply_file.specs.Walk.{walk_reply}
 use Rattle.reply_file.proofs.Near.{step_near}
-use borrow.Author.Rules.{rules}
 use Rattle.reply_file.proofs.walk.walk_reply.Goals as goal
 
 pub step_told-requires : goal.step_told-requires

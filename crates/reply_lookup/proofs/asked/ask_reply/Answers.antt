@@ -2,7 +2,6 @@
 use mathlib.Core.Path.{sym, ap, ◌∙◌}
 use Rattle.reply_lookup.specs.Asked.{ask_reply}
 use Rattle.reply_lookup.proofs.Near.{ask_near}
-use borrow.Author.Rules.{rules}
 use Rattle.reply_lookup.proofs.asked.ask_reply.Goals as goal
 
 pub ask_told-requires : goal.ask_told-requires

@@ -2,7 +2,6 @@
 use mathlib.Core.Path.{sym, ap, ◌∙◌}
 use Rattle.reply_lookup.specs.Lookup.{lookup_reply}
 use Rattle.reply_lookup.proofs.Near.{lookup_near}
-use borrow.Author.Rules.{rules}
 use Rattle.reply_lookup.proofs.lookup.lookup_reply.Goals as goal
 
 pub lookup_told-requires : goal.lookup_told-requires

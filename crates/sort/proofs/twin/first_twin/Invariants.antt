@@ -1,12 +1,9 @@
 -- `sort::twin::first_twin` meets its contract: the first twin is the first from the entry before i on.
-use mathlib.Core.Path.{◌≡◌, sym, ◌∙◌}
-use Prim.Native.Nat.{◌+◌, ◌-◌, ◌<◌}
-use native.Mathlib.Omega.{arith}
+use mathlib.Core.Path.{◌≡◌}
+use Prim.Native.Nat.{◌-◌, ◌<◌}
 use lib.ListN.{length, drop}
 use Rattle.places.specs.Name.{standing_name}
 use Rattle.sort.specs.Twin.{first_twin}
-use Rattle.sort.proofs.Twins.{twin_at, no_twin_left}
-use borrow.Author.Rules.{rules}
 use Rattle.sort.proofs.twin.first_twin.Given as goal
 
 abbrev pub invariant-loop-i : goal.invariant-loop-i
