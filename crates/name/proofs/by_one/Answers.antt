@@ -3,13 +3,13 @@
 use mathlib.Core.Path.{◌≡◌, sym, ◌∙◌}
 use mathlib.Core.Bool.{false, ◌&&◌, and-false}
 use borrow.Author.Tests.{not-true, not-false, ne_eqb}
+use native.Mathlib.Omega.{arith}
 use lib.Dec.{eqb}
 use lib.ListN.{get_or}
 use Rattle.class.specs.Class.{classes_of}
 use Rattle.name.proofs.Components.{lock_before, locked_at, locked_end}
 use Rattle.name.proofs.OnePass.{valid_pass, pass_at, pass_end}
 use Rattle.name.proofs.by_one.Goals as goal
-use Rattle.name.proofs.by_one.Goals.{else-b-eq47-via-then-b-eq47+else-lock_before, else-b-eq47-via-else-b-eq47}
 
 pub loop-i-init : goal.loop-i-init
 loop-i-init c = valid_pass (classes_of c.args.t.now) c.args.s.now
@@ -26,19 +26,16 @@ pub returns-then-lock_before : goal.returns-then-lock_before
 returns-then-lock_before c =
     let more = c.loop-i-test.true in
     let lock = sym c.lock_before.ensures ∙ c.if-lock_before.true in
-    rw (c.loop-i.invariant, locked_at, c.if-b-eq47.true, lock, and-false)
-
--- a byte before which no component ends with `.lock`: `.lock` does not stand before it, or it is no slash
-unlocked-Joined-else-b-eq47 : (c : goal.Joined-else-b-eq47) →
-    let s = c.args.s.now in
-    (eqb (get_or s c.loop-i.i 0) 47 && lock_before s c.loop-i.i) ≡ false
-unlocked-Joined-else-b-eq47 c = elim c.else-b-eq47.branch [ else-b-eq47-via-then-b-eq47+else-lock_before w ↦ rw (sym w.lock_before.ensures ∙ w.if-lock_before.false, and-false) | else-b-eq47-via-else-b-eq47 w ↦ rw (ne_eqb _ _ w.if-b-eq47.false) ]
+    let slash : get_or c.args.s.now c.loop-i.i 0 ≡ 47 = omega arith in
+    rw (c.loop-i.invariant, locked_at, slash, lock, and-false)
 
 pub loop-i-preserved : goal.loop-i-preserved
 loop-i-preserved c =
     let more = c.loop-i-test.true in
     let told = c.may_follow in
-    rw (pass_at, ← told.ensures, not-false told.result c.if-not-may_follow.false-raw, locked_at, (unlocked-Joined-else-b-eq47 c)) at c.loop-i.invariant
+    -- a byte before which no component ends with `.lock`: `.lock` does not stand before it, or it is no slash
+    let unlocked : (eqb (get_or c.args.s.now c.loop-i.i 0) 47 && lock_before c.args.s.now c.loop-i.i) ≡ false = grind (arith, and-false, ne_eqb) in
+    rw (pass_at, ← told.ensures, not-false told.result c.if-not-may_follow.false-raw, locked_at, unlocked) at c.loop-i.invariant
 
 -- the end: `over` is what `pass-end` and `locked-end` ask
 pub returns : goal.returns
