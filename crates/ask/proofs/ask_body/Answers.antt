@@ -109,6 +109,7 @@ pub loop-why-preserved : goal.loop-why-preserved
 loop-why-preserved c =
     let a = c.args in let l = c.loop-why in
     let s = spot a.n a.file.now l.place l.last.now in
-    let k = turned s _ (On c.in-On.found) c.take_turn.ensures c.in-On.is in
-    ( few s a.name.now l.count k l.invariant.0
-    , sym (other s a.name.now l.count k c.name_of-last.ensures c.is_same.ensures c.if-is_same.false) ∙ l.invariant.1 )
+    let k = turned s _ (On c.in-On.found) c.take_turn.ensures c.in-On.is in (
+      few s a.name.now l.count k l.invariant.0,
+      sym (other s a.name.now l.count k c.name_of-last.ensures c.is_same.ensures c.if-is_same.false) ∙ l.invariant.1,
+    )
