@@ -4,10 +4,10 @@
 // both. Each line that says what is asked, and each comment, is printed as it stands.
 #![tactic(auto)]
 
-mod ask;
-mod merge;
+mod asking;
+mod merging;
 mod question;
-mod tell;
+mod telling;
 
 ghost use Rattle.std.specs.Prelude.{◌≤◌, length, IfOk};
 
@@ -23,19 +23,19 @@ fn file_space() -> [u8; 2097152] {
 // Answers the question at a place, or passes over the comment there, and gives the place behind it.
 fn answer(rt: &impl Print, file: &[u8], at: usize) -> io::Result<usize> {
     let q = question::read(file, at);
-    tell::text(rt, parse::part::between(file, at, q.a))?;
+    telling::text(rt, parse::part::between(file, at, q.a))?;
     if q.letter == b'#' {
         return Ok(q.next);
     }
     let a = parse::part::between(file, q.a, q.b);
     let b = parse::part::between(file, q.b, q.end);
-    tell::text(rt, b"=")?;
+    telling::text(rt, b"=")?;
     if q.letter == b'm' {
-        merge::merge(rt, q, a, b)?;
+        merging::merge(rt, q, a, b)?;
     } else {
-        ask::ask(rt, q, a, b)?;
+        asking::ask(rt, q, a, b)?;
     }
-    tell::text(rt, b"\n")?;
+    telling::text(rt, b"\n")?;
     Ok(q.next)
 }
 
@@ -70,7 +70,7 @@ fn read_full(source: &mut impl Read, file: &mut [u8]) -> io::Result<usize>
 fn read_and_replay(rt: &impl Print, source: &mut impl Read, file: &mut [u8]) -> io::Result<()> {
     let n = read_full(source, file)?;
     if n == file.len() {
-        return tell::text(rt, b"questions: too long a file\n");
+        return telling::text(rt, b"questions: too long a file\n");
     }
     replay(rt, &file[..n])
 }

@@ -24,7 +24,7 @@ pub returns-then-not-stands : goal.returns-then-not-stands
 returns-then-not-stands c =
     let a = c.args in
     sym
-    (cut_short paper c.args.s.now a.from a.len a.ids c.if-len-eq0.false c.if-len-gt4096.false
+    (cut_short paper c.args.s.now a.from a.len a.ids c.if-len-eq0.false (omega arith)
     (sym c.stands.ensures ∙ c.if-not-stands.true))
 
 stands-Then-not-is_valid : (c : goal.Then-not-is_valid) → leb (c.args.from + c.args.len + c.args.ids) (length c.args.s.now) ≡ true
@@ -37,7 +37,7 @@ pub returns-then-not-is_valid : goal.returns-then-not-is_valid
 returns-then-not-is_valid c =
     let a = c.args in
     sym
-    (bad_name_lem paper c.args.s.now a.from a.len a.ids c.if-len-eq0.false c.if-len-gt4096.false (stands-Then-not-is_valid c)
+    (bad_name_lem paper c.args.s.now a.from a.len a.ids c.if-len-eq0.false (omega arith) (stands-Then-not-is_valid c)
     ((valid_is-Then-not-is_valid c) ∙ c.if-not-is_valid.true))
 
 stands-Else-not-is_valid : (c : goal.Else-not-is_valid) → leb (c.args.from + c.args.len + c.args.ids) (length c.args.s.now) ≡ true
@@ -59,5 +59,5 @@ pub returns : goal.returns
 returns c =
     let a = c.args in
     sym
-    (good_name paper c.args.s.now a.from a.len a.ids c.if-len-eq0.false c.if-len-gt4096.false (stands-Else-not-is_valid c)
+    (good_name paper c.args.s.now a.from a.len a.ids c.if-len-eq0.false (omega arith) (stands-Else-not-is_valid c)
     ((valid_is-Else-not-is_valid c) ∙ c.if-not-is_valid.false))

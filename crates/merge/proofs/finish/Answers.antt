@@ -9,7 +9,6 @@ use Rattle.put.specs.Put.{over, place_behind}
 use Rattle.put.proofs.Laws.{over_beyond, over_fits, place_behind_lem}
 use Rattle.lines.specs.Lines.{header_line}
 use Rattle.merge.specs.declared.Merged.TheVariants.{Done}
-use Rattle.runs.specs.Runs.{is_still}
 use Rattle.merge.specs.Splice.{spliced_file}
 use Rattle.merge.proofs.Answers.{nothing_to_do, no_record, short_output, all_done}
 use Rattle.merge.proofs.finish.Goals as goal

@@ -63,7 +63,7 @@ loop-place-preserved c =
     let turns = 4096 - (count + 1) in
     let is_edit = is_read n list place c.read.ensures ∙ c.in-Good.is in
     let on = counted_onto count place (edits_from paper n list turns (place + size)) in
-    let here = fewer n list count place c.if-count-ge4096.false ∙ from_good paper n list place c.loop-place-test.true turns size is_edit in
+    let here = fewer n list count place (omega arith) ∙ from_good paper n list place c.loop-place-test.true turns size is_edit in
     (omega arith, sym on ∙ decides n list count place c.loop-place.invariant.1 here)
 
 pub returns-in-Bad : goal.returns-in-Bad
@@ -73,7 +73,7 @@ returns-in-Bad c =
     let place = c.loop-place.place in
     let count = c.loop-place.count in
     let is_edit = is_read n list place c.read.ensures ∙ c.in-Bad.is in
-    let here = fewer n list count place c.if-count-ge4096.false ∙ from_bad paper n list place c.loop-place-test.true (4096 - (count + 1)) is_edit in
+    let here = fewer n list count place (omega arith) ∙ from_bad paper n list place c.loop-place-test.true (4096 - (count + 1)) is_edit in
     decides n list count place c.loop-place.invariant.1 here
 
 pub returns : goal.returns

@@ -29,7 +29,7 @@ fill-requires c =
     let within = sym c.over_limit.ensures ∙ c.if-over_limit.false in
     let number_is = sym c.count.ensures ∙ c.in-Count.is in
     let whole = counted_count (edits_of paper c.args.n c.args.list.now) c.in-Count.k number_is in
-    (omega (arith, ltb-false 1073741824 (length c.args.list.now) within), whole.2, omega (arith, whole.1, c.if-index-k.false))
+    (omega (arith, ltb-false 1073741824 (length c.args.list.now) within), whole.2, omega (arith, whole.1))
 
 pub returns-in-Bad : goal.returns-in-Bad
 returns-in-Bad c =

@@ -1,6 +1,6 @@
 // A question to the library that lends bytes alone, and its answer. A field that the paper does not give beside a number is not printed.
 use crate::question::Question;
-use crate::tell;
+use crate::telling;
 use std::io;
 
 pub(crate) fn ask(rt: &impl Print, q: Question, a: &[u8], b: &[u8]) -> io::Result<()> {
@@ -18,38 +18,38 @@ pub(crate) fn ask(rt: &impl Print, q: Question, a: &[u8], b: &[u8]) -> io::Resul
         b'p' => prefix(rt, kind, a, b),
         b'a' => trusted(rt, kind, a, b),
         b'l' => loose(rt, kind, a),
-        _ => tell::text(rt, b" not a question"),
+        _ => telling::text(rt, b" not a question"),
     }
 }
 
 fn header(rt: &impl Print, file: &[u8]) -> io::Result<()> {
     let r = host::read::packed_refs_header(file);
-    tell::number(rt, r.number)?;
+    telling::number(rt, r.number)?;
     if r.number == 2 {
-        tell::place(rt, r.text_len)?;
+        telling::place(rt, r.text_len)?;
     }
     if r.number == 0 {
-        tell::number(rt, r.peeled)?;
-        tell::number(rt, r.sorted)?;
-        tell::place(rt, r.place)?;
+        telling::number(rt, r.peeled)?;
+        telling::number(rt, r.sorted)?;
+        telling::place(rt, r.place)?;
     }
     Ok(())
 }
 
 fn name(rt: &impl Print, name: &[u8]) -> io::Result<()> {
-    tell::number(rt, host::read::packed_refs_name(name))
+    telling::number(rt, host::read::packed_refs_name(name))
 }
 
 // Where it begins, on which line, its items, and its end with the line that was handed on.
 fn iteration(rt: &impl Print, kind: u32, file: &[u8]) -> io::Result<()> {
     let r = host::read::packed_refs_start(kind, file);
-    tell::number(rt, r.number)?;
+    telling::number(rt, r.number)?;
     if r.number == 2 {
-        tell::place(rt, r.text_len)?;
+        telling::place(rt, r.text_len)?;
     }
     if r.number == 0 {
-        tell::place(rt, r.place)?;
-        tell::count(rt, r.line)?;
+        telling::place(rt, r.place)?;
+        telling::count(rt, r.line)?;
         let end = items(rt, true, kind, file, &file[0..0], r.place, r.line)?;
         walked(rt, end)?;
     }
@@ -59,13 +59,13 @@ fn iteration(rt: &impl Print, kind: u32, file: &[u8]) -> io::Result<()> {
 // Where it begins, its items, and its end.
 fn prefix(rt: &impl Print, kind: u32, body: &[u8], prefix: &[u8]) -> io::Result<()> {
     let r = host::read::packed_refs_prefix(kind, body, prefix);
-    tell::number(rt, r.number)?;
+    telling::number(rt, r.number)?;
     if r.number == 2 {
-        tell::place(rt, r.text_at)?;
-        tell::place(rt, r.text_len)?;
+        telling::place(rt, r.text_at)?;
+        telling::place(rt, r.text_len)?;
     }
     if r.number == 0 {
-        tell::place(rt, r.place)?;
+        telling::place(rt, r.place)?;
         let end = items(rt, false, kind, body, prefix, r.place, 0)?;
         item(rt, end)?;
     }
@@ -117,7 +117,7 @@ fn next(
 
 fn step(rt: &impl Print, kind: u32, bytes: &[u8], place: usize) -> io::Result<()> {
     let r = host::read::packed_refs_step(kind, bytes, place);
-    tell::number(rt, r.number)?;
+    telling::number(rt, r.number)?;
     if r.number == 0 {
         item(rt, r)?;
     }
@@ -126,7 +126,7 @@ fn step(rt: &impl Print, kind: u32, bytes: &[u8], place: usize) -> io::Result<()
 
 fn walk(rt: &impl Print, kind: u32, bytes: &[u8], place: usize, line: u64) -> io::Result<()> {
     let r = host::read::packed_refs_walk(kind, bytes, place, line);
-    tell::number(rt, r.number)?;
+    telling::number(rt, r.number)?;
     if r.number == 0 {
         walked(rt, r)?;
     }
@@ -136,28 +136,28 @@ fn walk(rt: &impl Print, kind: u32, bytes: &[u8], place: usize, line: u64) -> io
 // What a walk tells, and the line that it hands on.
 fn walked(rt: &impl Print, r: reply_file::walk::StepReply) -> io::Result<()> {
     item(rt, r)?;
-    tell::count(rt, r.next_line)
+    telling::count(rt, r.next_line)
 }
 
 fn item(rt: &impl Print, r: reply_file::walk::StepReply) -> io::Result<()> {
     let what = r.what;
     match what {
         0 => {
-            tell::text(rt, b" .")?;
-            tell::place(rt, r.next)
+            telling::text(rt, b" .")?;
+            telling::place(rt, r.next)
         },
         1 => {
-            tell::text(rt, b" r")?;
+            telling::text(rt, b" r")?;
             record(rt, r.start, r.name_at, r.name_len, r.peeled_at)?;
-            tell::place(rt, r.next)
+            telling::place(rt, r.next)
         },
         _ => {
-            tell::text(rt, b" e")?;
-            tell::place(rt, r.start)?;
-            tell::number(rt, r.why)?;
-            tell::count(rt, r.line)?;
-            tell::place(rt, r.text_len)?;
-            tell::place(rt, r.next)
+            telling::text(rt, b" e")?;
+            telling::place(rt, r.start)?;
+            telling::number(rt, r.why)?;
+            telling::count(rt, r.line)?;
+            telling::place(rt, r.text_len)?;
+            telling::place(rt, r.next)
         },
     }
 }
@@ -169,57 +169,57 @@ fn record(
     name_len: usize,
     peeled_at: usize,
 ) -> io::Result<()> {
-    tell::place(rt, place)?;
-    tell::place(rt, name_at)?;
-    tell::place(rt, name_len)?;
-    tell::place(rt, peeled_at)
+    telling::place(rt, place)?;
+    telling::place(rt, name_at)?;
+    telling::place(rt, name_len)?;
+    telling::place(rt, peeled_at)
 }
 
 fn check(rt: &impl Print, kind: u32, file: &[u8]) -> io::Result<()> {
     let r = host::read::packed_refs_check(kind, file);
     let n = r.number;
-    tell::number(rt, n)?;
+    telling::number(rt, n)?;
     match n {
-        0 => tell::place(rt, r.count),
-        _ => tell::file_refusal(rt, n, r.place, r.line, r.text_len),
+        0 => telling::place(rt, r.count),
+        _ => telling::file_refusal(rt, n, r.place, r.line, r.text_len),
     }
 }
 
 // Here the answer is the place alone.
 fn record_start(rt: &impl Print, bytes: &[u8], place: usize) -> io::Result<()> {
-    tell::place(rt, host::read::packed_refs_record_start(bytes, place))
+    telling::place(rt, host::read::packed_refs_record_start(bytes, place))
 }
 
 fn lookup(rt: &impl Print, kind: u32, body: &[u8], name: &[u8]) -> io::Result<()> {
     let r = host::read::packed_refs_lookup(kind, body, name);
     let n = r.number;
-    tell::number(rt, n)?;
+    telling::number(rt, n)?;
     match n {
         0 => record(rt, r.place, r.name_at, r.name_len, r.peeled_at),
-        _ => tell::refusal(rt, n, r.place, 0),
+        _ => telling::refusal(rt, n, r.place, 0),
     }
 }
 
 fn trusted(rt: &impl Print, kind: u32, file: &[u8], name: &[u8]) -> io::Result<()> {
     let r = host::read::packed_refs_ask(kind, file, name);
     let n = r.number;
-    tell::number(rt, n)?;
+    telling::number(rt, n)?;
     match n {
         0 => {
             record(rt, r.place, r.name_at, r.name_len, r.peeled_at)?;
-            tell::number(rt, r.fault)
+            telling::number(rt, r.fault)
         },
-        _ => tell::file_refusal(rt, n, r.place, r.line, r.text_len),
+        _ => telling::file_refusal(rt, n, r.place, r.line, r.text_len),
     }
 }
 
 fn loose(rt: &impl Print, kind: u32, content: &[u8]) -> io::Result<()> {
     let r = host::read::packed_refs_loose(kind, content);
-    tell::number(rt, r.number)?;
+    telling::number(rt, r.number)?;
     if r.number == 0 {
-        tell::number(rt, r.what)?;
-        tell::place(rt, r.at)?;
-        tell::place(rt, r.len)?;
+        telling::number(rt, r.what)?;
+        telling::place(rt, r.at)?;
+        telling::place(rt, r.len)?;
     }
     Ok(())
 }

@@ -1,6 +1,6 @@
 // A merge: its answer, the index, the new file, and whether anything else was written.
 use crate::question::Question;
-use crate::tell;
+use crate::telling;
 use std::io;
 
 // What the index and the output hold before.
@@ -69,24 +69,24 @@ fn write(
 
 fn told(rt: &impl Print, r: reply_merge::MergeReply) -> io::Result<()> {
     let n = r.number;
-    tell::number(rt, n)?;
+    telling::number(rt, n)?;
     match n {
-        0 => tell::place(rt, r.length),
-        _ => tell::file_refusal(rt, n, r.place, r.line, r.text_len),
+        0 => telling::place(rt, r.length),
+        _ => telling::file_refusal(rt, n, r.place, r.line, r.text_len),
     }
 }
 
 // The entries that were written.
 fn entries(rt: &impl Print, index: &[u32]) -> io::Result<()> {
-    tell::text(rt, b" x")?;
+    telling::text(rt, b" x")?;
     let mut shown = 0;
     let mut i = 0;
     while i < index.len() {
         if index[i] != NO_PLACE {
             if shown < i {
-                tell::text(rt, b" behind a gap")?;
+                telling::text(rt, b" behind a gap")?;
             }
-            tell::number(rt, index[i])?;
+            telling::number(rt, index[i])?;
             shown = i + 1;
         }
         i += 1;
@@ -97,11 +97,11 @@ fn entries(rt: &impl Print, index: &[u32]) -> io::Result<()> {
 // The new file as it stands, and whether the output holds what it held behind it.
 fn written(rt: &impl Print, out: &[u8], n: usize) -> io::Result<()> {
     if !is_untouched(out, n) {
-        tell::text(rt, b" and more was written")?;
+        telling::text(rt, b" and more was written")?;
     }
     if 0 < n {
-        tell::text(rt, b"\n")?;
-        tell::text(rt, parse::part::between(out, 0, n))?;
+        telling::text(rt, b"\n")?;
+        telling::text(rt, parse::part::between(out, 0, n))?;
     }
     Ok(())
 }
