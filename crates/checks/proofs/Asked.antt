@@ -16,7 +16,7 @@ use Rattle.header.specs.declared.Opened.TheVariants as opened
 use Rattle.header.specs.declared.HeaderAnswer.TheVariants as headed
 use Rattle.header.specs.Header.{header_of, header_answer}
 use Rattle.checks.specs.declared.Verdict.TheVariants.{Clean}
-use Rattle.checks.specs.declared.CheckAnswer.TheVariants.{Done, TooLarge}
+use Rattle.checks.specs.declared.CheckAnswer.TheVariants.{Done}
 use Rattle.checks.specs.Check.{check_of, check_answer}
 
 pub passed : (kind n : ℕ) → digits_of kind ≡ kinds.Digits n → (file : List ℕ) (count : ℕ) → check_answer kind file ≡ Done (Clean count)
