@@ -64,20 +64,11 @@ slice_bounds-name_of-count c = omega (arith, (on-In-On c).0.inside)
 pub slice_bounds-name_of-start : goal.slice_bounds-name_of-start
 slice_bounds-name_of-start c = omega (arith, (on-In-On c).0.inside)
 
-abbrev here-After-name_of-last : (c : goal.After-name_of-last) → Spot
-here-After-name_of-last c =
-    let a = c.args in
-    record { byte = paper; n = a.n; file = a.file.now; place = c.loop-why.place; last = c.loop-why.last.now }
-
-tells-After-name_of-last : (c : goal.After-name_of-last) → (w : Turn) → c.take_turn.result ≡ w → Turned (here-After-name_of-last c) w
-tells-After-name_of-last c w = turned (here-After-name_of-last c) _ w c.take_turn.ensures
-
-on-After-name_of-last : (c : goal.After-name_of-last) → Turned (here-After-name_of-last c) (On c.in-On.found)
-on-After-name_of-last c = (tells-After-name_of-last c) _ c.in-On.is
-
 pub overflow_add-count : goal.overflow_add-count
 overflow_add-count c =
-    omega (arith, goes_on (on-After-name_of-last c).0, c.loop-why.invariant.0, c.well_formed)
+    let here : Spot = record { byte = paper; n = c.args.n; file = c.args.file.now; place = c.loop-why.place; last = c.loop-why.last.now } in
+    let on : Turned here (On c.in-On.found) = turned here _ _ c.take_turn.ensures c.in-On.is in
+    omega (arith, goes_on on.0, c.loop-why.invariant.0, c.well_formed)
 
 abbrev here-After-struct_known-1 : (c : goal.After-struct_known-1) → Spot
 here-After-struct_known-1 c =

@@ -4,7 +4,7 @@ use mathlib.Core.Bool.{true}
 use mathlib.Core.List.{List}
 use Prim.Native.Nat.{ℕ, ◌-◌}
 use lib.ListN.{take, drop}
-use borrow.Author.Tests.{not-true, not-false}
+use borrow.Author.Tests.{not-true}
 use Rattle.parse.specs.declared.part.Past.TheVariants.{At, Unread}
 use Rattle.parse.specs.declared.line.Text.TheVariants.{Ended}
 use Rattle.class.specs.Class.{paper}
@@ -17,6 +17,7 @@ use Rattle.decode.specs.declared.reference.Fault.TheVariants.{Peeled}
 use Rattle.decode.specs.declared.reference.Reading.TheVariants.{Good, Bad}
 use Rattle.decode.specs.Record.{record_of}
 use Rattle.decode.proofs.Parts.{no_id, no_space, no_line_end, no_name, plain_record, no_peeled_id, no_peeled_end, peeled_record}
+use native.Mathlib.Omega.{arith}
 use Rattle.decode.proofs.reference.reference.Goals as goal
 
 pub returns-in_default : goal.returns-in_default
@@ -59,12 +60,9 @@ pub returns-then-not-is_valid : goal.returns-then-not-is_valid
 returns-then-not-is_valid c =
     sym (no_name paper c.args.n c.args.s.now (id-Then-not-is_valid c) (space-Then-not-is_valid c) (text-Then-not-is_valid c) ((valid_is-Then-not-is_valid c) ∙ not-true _ c.if-not-is_valid.true-raw))
 
-text-Else-not-is_valid : (c : goal.Else-not-is_valid) → text_at paper c.args.s.now c.in-At-past_byte.from ≡ Ended c.in-Ended.end c.in-Ended.next
-text-Else-not-is_valid c = sym c.until_line_end.ensures ∙ c.in-Ended.is
-
 pub overflow_sub-name_len : goal.overflow_sub-name_len
 overflow_sub-name_len c =
-    text_order paper c.args.s.now c.in-At-past_byte.from (text-Else-not-is_valid c)
+    text_order paper c.args.s.now c.in-At-past_byte.from (sym c.until_line_end.ensures ∙ c.in-Ended.is)
 
 id-In_default-past_byte-2 : (c : goal.In_default-past_byte-2) → id_at paper c.args.n c.args.s.now 0 ≡ At c.in-At.id_end
 id-In_default-past_byte-2 c = sym c.hex_hash.ensures ∙ c.in-At.is
@@ -82,7 +80,7 @@ valid_is-In_default-past_byte-2 : (c : goal.In_default-past_byte-2) → valid_na
 valid_is-In_default-past_byte-2 c = ap (valid_name paper) (sym c.between.ensures) ∙ sym c.is_valid.ensures
 
 name-In_default-past_byte-2 : (c : goal.In_default-past_byte-2) → valid_name paper (name_text-In_default-past_byte-2 c) ≡ true
-name-In_default-past_byte-2 c = (valid_is-In_default-past_byte-2 c) ∙ not-false _ c.if-not-is_valid.false-raw
+name-In_default-past_byte-2 c = let told : c.is_valid.result ≡ true = grind arith in (valid_is-In_default-past_byte-2 c) ∙ told
 
 pub returns-in_default-past_byte-2 : goal.returns-in_default-past_byte-2
 returns-in_default-past_byte-2 c =
@@ -104,7 +102,7 @@ valid_is-In_default-hex_hash : (c : goal.In_default-hex_hash) → valid_name pap
 valid_is-In_default-hex_hash c = ap (valid_name paper) (sym c.between.ensures) ∙ sym c.is_valid.ensures
 
 name-In_default-hex_hash : (c : goal.In_default-hex_hash) → valid_name paper (name_text-In_default-hex_hash c) ≡ true
-name-In_default-hex_hash c = (valid_is-In_default-hex_hash c) ∙ not-false _ c.if-not-is_valid.false-raw
+name-In_default-hex_hash c = let told : c.is_valid.result ≡ true = grind arith in (valid_is-In_default-hex_hash c) ∙ told
 
 caret-In_default-hex_hash : (c : goal.In_default-hex_hash) → byte_at 94 c.args.s.now c.in-Ended.next ≡ At c.in-At-past_byte-2.peeled
 caret-In_default-hex_hash c = sym c.past_byte-2.ensures ∙ c.in-At-past_byte-2.is
@@ -129,7 +127,7 @@ valid_is-In_default-newline : (c : goal.In_default-newline) → valid_name paper
 valid_is-In_default-newline c = ap (valid_name paper) (sym c.between.ensures) ∙ sym c.is_valid.ensures
 
 name-In_default-newline : (c : goal.In_default-newline) → valid_name paper (name_text-In_default-newline c) ≡ true
-name-In_default-newline c = (valid_is-In_default-newline c) ∙ not-false _ c.if-not-is_valid.false-raw
+name-In_default-newline c = let told : c.is_valid.result ≡ true = grind arith in (valid_is-In_default-newline c) ∙ told
 
 caret-In_default-newline : (c : goal.In_default-newline) → byte_at 94 c.args.s.now c.in-Ended.next ≡ At c.in-At-past_byte-2.peeled
 caret-In_default-newline c = sym c.past_byte-2.ensures ∙ c.in-At-past_byte-2.is
@@ -159,7 +157,7 @@ valid_is-In-At-newline : (c : goal.In-At-newline) → valid_name paper (name_tex
 valid_is-In-At-newline c = ap (valid_name paper) (sym c.between.ensures) ∙ sym c.is_valid.ensures
 
 name-In-At-newline : (c : goal.In-At-newline) → valid_name paper (name_text-In-At-newline c) ≡ true
-name-In-At-newline c = (valid_is-In-At-newline c) ∙ not-false _ c.if-not-is_valid.false-raw
+name-In-At-newline c = let told : c.is_valid.result ≡ true = grind arith in (valid_is-In-At-newline c) ∙ told
 
 caret-In-At-newline : (c : goal.In-At-newline) → byte_at 94 c.args.s.now c.in-Ended.next ≡ At c.in-At-past_byte-2.peeled
 caret-In-At-newline c = sym c.past_byte-2.ensures ∙ c.in-At-past_byte-2.is
