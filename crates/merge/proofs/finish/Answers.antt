@@ -49,7 +49,7 @@ returns-then-out-len c =
     let moves = sym c.is_still.ensures ∙ c.if-is_still.false in
     let long = measured new _ (c.write-len.ensures.value ∙ ap (λ h. place_behind 0 (length (under h))) header) in
     let out = untouched new _ a.out.now (c.write-len.ensures.out_after ∙ ap (λ h. over [] 0 (under h)) header) in
-    let some : length new ≡ 46 → ⊥ = λ z. c.if-len-eq46.false (omega (arith, long, z)) in
+    let some : length new ≡ 46 → ⊥ = λ z. omega (arith, long, z) in
     let short : length a.out.now < length new = omega (arith, long, ap length out, c.if-out-len.true) in
     record { value = sym (short_output header_line _ new (length a.out.now) moves some short); out_after = out }
 
@@ -64,7 +64,7 @@ returns c =
     let out = untouched new _ a.out.now (c.write-len.ensures.out_after ∙ ap (λ h. over [] 0 (under h)) header) in
     let len : c.write-len.result ≡ length new = omega (arith, long, ap length out, c.if-out-len.false, c.well_formed) in
     let room : length new ≤ length a.out.now = omega (arith, len, ap length out, c.if-out-len.false) in
-    let some : length new ≡ 46 → ⊥ = λ z. c.if-len-eq46.false (len ∙ z) in
+    let some : length new ≡ 46 → ⊥ = λ z. omega (arith, len, z) in
     record {
       value = ap Done len ∙ sym (all_done header_line _ new (length a.out.now) moves some room);
       out_after = c.write.ensures.out_after ∙ (λ i. over (out i) 0 (under (header i))) ∙ over_fits a.out.now new room;

