@@ -3,18 +3,20 @@
 set -u
 cd "$(dirname "$0")/.." || exit 1
 
-# The public functions of the libraries, as crate::module::function. A file of src/ that is not lib.rt is a module. No crate can name what a static
+# The public functions of the libraries, as crate::module::function, a method with its type before it. A file of src/ that is not lib.rt is a module. No crate can name what a static
 # library has, so host_c, which gives C what host has, is held to host below.
 public=$(for f in crates/*/src/*.rt; do
     crate=${f#crates/}; crate=${crate%%/*}
     [ ! -e "crates/$crate/src/main.rt" ] || continue
     ! grep -q "^$crate staticlib:" crates.txt || continue
     module=$(basename "$f" .rt); [ "$module" = lib ] && module= || module=$module::
-    sed -nE "s/^ *pub (extern \"C\" )?fn ([a-z0-9_]+).*/$crate::$module\2/p" "$f"
+    awk -v at="$crate::$module" '/^impl/ { sub(/^impl(<[^>]*>)? /, ""); sub(/[^A-Za-z0-9_].*/, ""); type = $0 "::" }
+        /^}/ { type = "" }
+        match($0, /^ *pub (extern "C" )?fn [a-z0-9_]+/) { name = substr($0, RSTART, RLENGTH); sub(/.* /, "", name); print at type name }' "$f"
 done)
 count=0
 for f in $public; do
-    path=Rattle.${f%%::*}.specs.contracts.$(echo "${f#*::}" | sed 's/::/./')
+    path=Rattle.${f%%::*}.specs.contracts.$(echo "${f#*::}" | sed 's/::/./g')
     file=$(grep -lE --exclude=Anywhere.antt "^use $path( as .*)?$" crates/determined/specs/*.antt) || { echo "no theorem: $f"; exit 1; }
     name=$(sed -nE "s/^use $path as (.*)$/\1/p" "$file"); name=${name:-${f##*::}}
     theorem=$(sed -nE "s/^  pub ([a-z0-9_]+) : Determined(As)? $name\.ended \(λ M( 𝓤)?\. $name\.clauses\).*$/\1/p" "$file")

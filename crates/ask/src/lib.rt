@@ -5,11 +5,12 @@ ghost use Rattle.std.specs.Prelude.{◌≡◌};
 ghost use Rattle.class.specs.Class.{paper};
 ghost use Rattle.ask.specs.Ask.{ask_of, ask_answer, ask_body, sought_from, told_of};
 
-use checks::{Refusal, Turn, Verdict};
-use decode::reference::{Reading, Record};
-use header::Opened;
-use parse::limit::Admission;
+use checks::{Refusal, Verdict};
+use decode::reference::Record;
+use header::BadHeader;
+use parse::limit::NotAdmitted;
 
+// What is told of a name. No Option and no Result: that no record has the name is an answer and no error, and it must not be mistaken for one.
 #[derive(Clone, Copy)]
 pub enum Told {
     // A record of the file has the name: where it starts, and what the check says of the whole file. Where the file does not pass, the record may
@@ -27,31 +28,23 @@ pub enum Told {
     Refused(Refusal),
 }
 
+// A record, and where it starts.
 #[derive(Clone, Copy)]
-pub enum AskAnswer {
-    Done(Told),
-    UnknownKind,
-    TooLarge,
+pub struct Found {
+    pub place: usize,
+    pub reading: Record,
 }
 
-// The first record of a name.
-#[derive(Clone, Copy)]
-pub enum Sought {
-    At { place: usize, found: Record },
-    Nowhere,
-}
-
-pub fn ask(kind: u32, file: &[u8], name: &[u8]) -> AskAnswer
+#[tactic(auto, unfolding(crate::specs::Ask::ask_answer))]
+pub fn ask(kind: u32, file: &[u8], name: &[u8]) -> Result<Told, NotAdmitted>
     ensures { result ≡ ask_answer kind file.now name.now }
 {
-    match parse::limit::admit(kind, file.len(), name.len()) {
-        Admission::Digits(n) => { AskAnswer::Done(ask_with_digits(n, file, name)) }
-        Admission::UnknownKind => AskAnswer::UnknownKind,
-        Admission::TooLarge => AskAnswer::TooLarge,
-    }
+    let n = parse::limit::admit(kind, file.len(), name.len())?;
+    Ok(ask_with_digits(n, file, name))
 }
 
 // The same for ids of n digits.
+#[tactic(auto, unfolding(crate::specs::Ask::ask_of))]
 pub fn ask_with_digits(n: usize, file: &[u8], name: &[u8]) -> Told
     ensures { result ≡ ask_of paper n file.now name.now }
 {
@@ -59,8 +52,8 @@ pub fn ask_with_digits(n: usize, file: &[u8], name: &[u8]) -> Told
         return Told::BadName;
     }
     match header::open(file) {
-        Opened::Unreadable(text) => Told::Refused(Refusal::BadHeader(text)),
-        Opened::Header(h) => ask_body(n, file, h.body, name),
+        Err(BadHeader { text }) => Told::Refused(Refusal::BadHeader(text)),
+        Ok(h) => ask_body(n, file, h.body, name),
     }
 }
 
@@ -73,67 +66,60 @@ pub(crate) fn ask_body(n: usize, file: &[u8], body: usize, name: &[u8]) -> Told
     let mut count = 0;
     let mut last = &file[0..0];
     loop {
-        match checks::take_turn(n, file, place, last) {
-            Turn::End => {
-                return Told::Absent;
-            }
-            Turn::Refused(why) => {
+        let found = match checks::take_turn(n, file, place, last) {
+            Ok(Some(found)) => found,
+            Ok(None) => return Told::Absent,
+            Err(why) => {
                 let sought = first_named(n, file, place, name);
                 return tell(sought, checks::refused(why));
             }
-            Turn::On(found) => {
-                last = decode::reference::name_of(&file[place..], n, found);
-                count += 1;
-                let next = place + found.size;
-                if compare::prefix::is_same(last, name) {
-                    let verdict = checks::check_from(n, file, next, count, last);
-                    return Told::Charted {
-                        place,
-                        found,
-                        verdict,
-                    };
-                }
-                place = next;
-            }
+        };
+        last = decode::reference::name_of(&file[place..], n, found);
+        count += 1;
+        let next = place + found.size;
+        if compare::prefix::is_same(last, name) {
+            let verdict = checks::check_from(n, file, next, count, last);
+            return Told::Charted {
+                place,
+                found,
+                verdict,
+            };
         }
+        place = next;
     }
 }
 
 // The first record of a name from a place on, whatever stands before it.
-pub(crate) fn first_named(n: usize, file: &[u8], from: usize, name: &[u8]) -> Sought
+pub(crate) fn first_named(n: usize, file: &[u8], from: usize, name: &[u8]) -> Option<Found>
     ensures { result ≡ sought_from paper n file.now from name.now }
 {
     let mut place = from;
     while place < file.len() {
         let rest = &file[place..];
         match decode::reference::reference(rest, n) {
-            Reading::Bad(_) => {
-                place = parse::line::line_end(file, place);
-            }
-            Reading::Good(found) => {
-                if compare::prefix::is_same(decode::reference::name_of(rest, n, found), name) {
-                    return Sought::At { place, found };
+            Err(_) => place = parse::line::line_end(file, place),
+            Ok(reading) => {
+                if compare::prefix::is_same(decode::reference::name_of(rest, n, reading), name) {
+                    return Some(Found { place, reading });
                 }
-                place += found.size;
+                place += reading.size;
             }
         }
     }
-    Sought::Nowhere
+    None
 }
 
 // A record that was found, with the verdict on the whole file; or else the verdict.
-fn tell(sought: Sought, whole: Verdict) -> Told
+fn tell(sought: Option<Found>, whole: Verdict) -> Told
     ensures { result ≡ told_of sought whole }
 {
-    match sought {
-        Sought::At { place, found } => Told::Charted {
+    match (sought, whole) {
+        (Some(Found { place, reading }), _) => Told::Charted {
             place,
-            found,
+            found: reading,
             verdict: whole,
         },
-        Sought::Nowhere => match whole {
-            Verdict::Clean(_) => Told::Absent,
-            Verdict::Refused(why) => Told::Refused(why),
-        },
+        (None, Ok(_)) => Told::Absent,
+        (None, Err(why)) => Told::Refused(why),
     }
 }

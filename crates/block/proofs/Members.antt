@@ -26,10 +26,8 @@ module _ (b : ℕ) where
       go false e = e
 
   -- a turn of the loop
-  pub among_turn : (s : List ℕ) (at k : ℕ) (any : Bool) → at + k < length s → any ≡ among b (take k (drop at s))
-      → (any || eqb (get_or s (at + k) 0) b) ≡ among b (take (k + 1) (drop at s))
-  among_turn s at k any h e =
-      rw (e, ← get_or-drop at s k 0, add-one k) (sym (among_next (drop at s) k (omega (arith, length-drop at s))))
+  pub among_turn : (s : List ℕ) (k : ℕ) (any : Bool) → k < length s → any ≡ among b (take k s) → (any || eqb (get_or s k 0) b) ≡ among b (take (k + 1) s)
+  among_turn s k any h e = rw (e, add-one k) (sym (among_next s k h))
 
   among_none : (l : List ℕ) (n k : ℕ) → among b (take n l) ≡ false → k < n → k < length l → eqb (get_or l k 0) b ≡ false
   among_none [] n k e h i = absurd (omega arith)

@@ -4,13 +4,13 @@ use mathlib.Core.List.{List, [], ◌∷◌, ◌++◌}
 use Prim.Native.Nat.{ℕ, ◌+◌, ◌≤◌}
 use native.Mathlib.Omega.{arith}
 use lib.ListN.{length, length-append}
-use Rattle.compare.specs.declared.order.Order.TheVariants.{Less}
 use Rattle.class.specs.Class.{Classes}
 use Rattle.compare.specs.Order.{order_of}
 use Rattle.compare.proofs.Orders.{less_trans, order_refl}
 use Rattle.iter.specs.Items.{Item, items, bytes_of, name_of}
 use Rattle.checks.specs.Passes.{IsAscending}
 use Rattle.iter.specs.Stands.{Stands}
+use Rattle.std.specs.declared.cmp.Ordering.TheVariants.{Less}
 
 module _ (n : ℕ) where
   above_all : (last : List ℕ) (before : List Item) (it : Item) (after : List Item) → IsAscending n last (before ++ it ∷ after)

@@ -8,25 +8,24 @@ use native.Mathlib.Nat.{add-zero}
 use native.Mathlib.Omega.{arith}
 use lib.ListN.{length, length-append}
 use Rattle.parse.specs.Choice.{if}
-use Rattle.compare.specs.declared.order.Order.{Order}
-use Rattle.compare.specs.declared.order.Order.TheVariants.{Less, Equal, Greater}
 use Rattle.compare.specs.Order.{order_of, is_less, smaller}
 use Rattle.decode.specs.declared.reference.Fault.{Fault}
-use Rattle.decode.specs.declared.reference.Reading.{Reading}
-use Rattle.decode.specs.declared.reference.Reading.TheVariants.{Good, Bad}
 use Rattle.decode.specs.Record.{decoded}
-use Rattle.checks.specs.declared.Verdict.{Verdict}
-use Rattle.checks.specs.declared.Verdict.TheVariants.{Clean, Refused}
 use Rattle.checks.specs.declared.Refusal.{Refusal}
 use Rattle.checks.specs.declared.Refusal.TheVariants.{BadHeader, BadRecord, Unsorted}
 use Rattle.iter.specs.Items.{Item, bytes_of, name_of}
 use Rattle.checks.specs.Check.{judge}
 use Rattle.checks.specs.Passes.{is_good, all_good, IsAscending, Passes, last_name, FirstFault, FirstError, FirstUnsorted}
+use Rattle.std.specs.declared.cmp.Ordering.{Ordering}
+use Rattle.std.specs.declared.cmp.Ordering.TheVariants.{Equal, Greater, Less}
+use Rattle.std.specs.declared.result.Result.{Result}
+use Rattle.std.specs.declared.result.Result.TheVariants.{Err, Ok}
+use Rattle.decode.specs.declared.reference.Record.{Record}
 
 -- ---- one item: it stops the check, or the check goes on
 
 pub data Stop (n : ℕ) (last : List ℕ) (i : Item) : Type 0 where
-  error : (f : Fault) → i.what ≡ Bad f → Stop n last i
+  error : (f : Fault) → i.what ≡ Err f → Stop n last i
   unsorted : is_good i.what ≡ true → (order_of last (name_of n i) ≡ Less → ⊥) → Stop n last i
 
 pub record Goes (n : ℕ) (last : List ℕ) (i : Item) : Type 0 where
@@ -36,17 +35,17 @@ pub record Goes (n : ℕ) (last : List ℕ) (i : Item) : Type 0 where
 turn : (n : ℕ) (last : List ℕ) (i : Item) → Stop n last i ⊎ Goes n last i
 turn n last i = go i.what refl (order_of last (name_of n i)) refl
   where
-    go : (w : Reading) → i.what ≡ w → (o : Order) → order_of last (name_of n i) ≡ o → Stop n last i ⊎ Goes n last i
-    go (Bad f) e o u = inl (error f e)
-    go (Good r) e Less u = inr (record { good = rw e; up = u })
-    go (Good r) e Equal u = inl (unsorted (rw e) (λ z. let x : ◌≡◌ {A = ℕ} 0 1 = cc in omega arith))
-    go (Good r) e Greater u = inl (unsorted (rw e) (λ z. let x : ◌≡◌ {A = ℕ} 0 1 = cc in omega arith))
+    go : (w : Result Record Fault) → i.what ≡ w → (o : Ordering) → order_of last (name_of n i) ≡ o → Stop n last i ⊎ Goes n last i
+    go (Err f) e o u = inl (error f e)
+    go (Ok r) e Less u = inr (record { good = rw e; up = u })
+    go (Ok r) e Equal u = inl (unsorted (rw e) (λ z. let x : ◌≡◌ {A = ℕ} 0 1 = cc in omega arith))
+    go (Ok r) e Greater u = inl (unsorted (rw e) (λ z. let x : ◌≡◌ {A = ℕ} 0 1 = cc in omega arith))
 
-good_else : (w : Reading) (place : ℕ) (v : Verdict) → is_good w ≡ true → decoded w (λ r. v) (λ f. Refused (BadRecord place f)) ≡ v
-good_else (Good r) place v g = refl
-good_else (Bad f) place v g = cc
+good_else : (w : Result Record Fault) (place : ℕ) (v : Result ℕ Refusal) → is_good w ≡ true → decoded w (λ r. v) (λ f. Err (BadRecord place f)) ≡ v
+good_else (Ok r) place v g = refl
+good_else (Err f) place v g = cc
 
-not_less : (o : Order) → (o ≡ Less → ⊥) → is_less o ≡ false
+not_less : (o : Ordering) → (o ≡ Less → ⊥) → is_less o ≡ false
 not_less Less h = absurd (h refl)
 not_less Equal h = refl
 not_less Greater h = refl
@@ -57,10 +56,10 @@ refusal (unsorted g u) place = Unsorted place
 
 module _ (n place count : ℕ) (last : List ℕ) (i : Item) (l : List Item) where
   -- what a good record comes to
-  abbrev by_name : Verdict
-  by_name = if (smaller last (name_of n i)) (judge n (place + length i.bytes) (suc count) (name_of n i) l) (Refused (Unsorted place))
+  abbrev by_name : Result ℕ Refusal
+  by_name = if (smaller last (name_of n i)) (judge n (place + length i.bytes) (suc count) (name_of n i) l) (Err (Unsorted place))
 
-  judge_stop : (x : Stop n last i) → judge n place count last (i ∷ l) ≡ Refused (refusal x place)
+  judge_stop : (x : Stop n last i) → judge n place count last (i ∷ l) ≡ Err (refusal x place)
   judge_stop (error f e) = rw e
   judge_stop (unsorted g u) = rw (good_else i.what place by_name g, not_less (order_of last (name_of n i)) u)
 
@@ -108,36 +107,36 @@ judge_past n place count last (i ∷ before) rest g u =
 -- ---- the verdict on items that begin at a place
 
 module _ (n begin : ℕ) (l : List Item) where
-  judge_passes : all_good l ≡ true → IsAscending n [] l → judge n begin 0 [] l ≡ Clean (0 + length l)
+  judge_passes : all_good l ≡ true → IsAscending n [] l → judge n begin 0 [] l ≡ Ok (0 + length l)
   judge_passes g u = rw (append-nil l) at (judge_past n begin 0 [] l [] g u)
 
   judge_stops : {before : List Item} {it : Item} → Reached n [] l before it → (x : Stop n (last_name n [] before) it)
-      → judge n begin 0 [] l ≡ Refused (refusal x (begin + length (bytes_of before)))
+      → judge n begin 0 [] l ≡ Err (refusal x (begin + length (bytes_of before)))
   judge_stops {before} {it} r x =
       ap (judge n begin 0 []) r.all ∙ judge_past n begin 0 [] before (it ∷ r.after) r.good r.up
       ∙ judge_stop n (begin + length (bytes_of before)) (0 + length before) (last_name n [] before) it r.after x
 
   -- from what the items are to the verdict
 
-  pub judges : {m : ℕ} → Passes n l m → judge n begin 0 [] l ≡ Clean m
-  judges h = judge_passes h.good h.up ∙ ap Clean (omega (arith, h.number))
+  pub judges : {m : ℕ} → Passes n l m → judge n begin 0 [] l ≡ Ok m
+  judges h = judge_passes h.good h.up ∙ ap Ok (omega (arith, h.number))
 
   reached : {place : ℕ} → (x : FirstFault n begin l place) → Reached n [] l x.before x.it
   reached x = record { after = x.after; all = x.all; good = x.good; up = x.up }
 
-  pub judges_error : {place : ℕ} {f : Fault} → FirstError n begin l place f → judge n begin 0 [] l ≡ Refused (BadRecord place f)
+  pub judges_error : {place : ℕ} {f : Fault} → FirstError n begin l place f → judge n begin 0 [] l ≡ Err (BadRecord place f)
   judges_error {place} {f} h = rw h.first.here (judge_stops (reached h.first) (error f h.is))
 
-  pub judges_unsorted : {place : ℕ} → FirstUnsorted n begin l place → judge n begin 0 [] l ≡ Refused (Unsorted place)
+  pub judges_unsorted : {place : ℕ} → FirstUnsorted n begin l place → judge n begin 0 [] l ≡ Err (Unsorted place)
   judges_unsorted h = rw h.first.here (judge_stops (reached h.first) (unsorted h.good h.not_greater))
 
   -- and back: what a verdict says of the items, and that it is true
 
-  abbrev pub Says : Verdict → Type 0
-  Says (Clean m) = Passes n l m
-  Says (Refused (BadHeader text)) = ⊥
-  Says (Refused (BadRecord place f)) = FirstError n begin l place f
-  Says (Refused (Unsorted place)) = FirstUnsorted n begin l place
+  abbrev pub Says : Result ℕ Refusal → Type 0
+  Says (Ok m) = Passes n l m
+  Says (Err (BadHeader text)) = ⊥
+  Says (Err (BadRecord place f)) = FirstError n begin l place f
+  Says (Err (Unsorted place)) = FirstUnsorted n begin l place
 
   abbrev fault : {before : List Item} {it : Item} → Reached n [] l before it → FirstFault n begin l (begin + length (bytes_of before))
   fault {before} {it} r = record { before = before; it = it; after = r.after; all = r.all; good = r.good; up = r.up; here = refl }
@@ -150,5 +149,5 @@ module _ (n begin : ℕ) (l : List Item) where
       go (stops before it r (error f w)) = rw (judge_stops r (error f w)) (record { first = fault r; is = w })
       go (stops before it r (unsorted g w)) = rw (judge_stops r (unsorted g w)) (record { first = fault r; good = g; not_greater = w })
 
-  pub judged : {m : ℕ} → judge n begin 0 [] l ≡ Clean m → Passes n l m
+  pub judged : {m : ℕ} → judge n begin 0 [] l ≡ Ok m → Passes n l m
   judged v = rw v at says

@@ -1,15 +1,14 @@
 -- When items pass the check, and which is their first fault.
-use Rattle.std.specs.Prelude.{◌≡◌, Bool, true, false, ◌&&◌, List, [], ◌∷◌, ◌++◌, ℕ, ◌+◌, length}
-use Rattle.compare.specs.declared.order.Order.TheVariants.{Less}
+use Rattle.std.specs.Prelude.{◌≡◌, Bool, true, false, ◌&&◌, List, [], ◌∷◌, ◌++◌, ℕ, ◌+◌, length, Result, Ok, Err}
 use Rattle.compare.specs.Order.{order_of}
 use Rattle.decode.specs.declared.reference.Fault.{Fault}
-use Rattle.decode.specs.declared.reference.Reading.{Reading}
-use Rattle.decode.specs.declared.reference.Reading.TheVariants.{Good, Bad}
 use Rattle.iter.specs.Items.{Item, name_of, bytes_of}
+use Rattle.std.specs.declared.cmp.Ordering.TheVariants.{Less}
+use Rattle.decode.specs.declared.reference.Record.{Record}
 
-abbrev pub is_good : Reading → Bool
-is_good (Good r) = true
-is_good (Bad f) = false
+abbrev pub is_good : Result Record Fault → Bool
+is_good (Ok r) = true
+is_good (Err f) = false
 
 abbrev pub all_good : List Item → Bool
 all_good [] = true
@@ -45,7 +44,7 @@ pub record FirstFault (n : ℕ) (begin : ℕ) (l : List Item) (place : ℕ) : Ty
 
 pub record FirstError (n : ℕ) (begin : ℕ) (l : List Item) (place : ℕ) (f : Fault) : Type 0 where
   pub first : FirstFault n begin l place
-  pub is : first.it.what ≡ Bad f
+  pub is : first.it.what ≡ Err f
 
 pub record FirstUnsorted (n : ℕ) (begin : ℕ) (l : List Item) (place : ℕ) : Type 0 where
   pub first : FirstFault n begin l place

@@ -1,6 +1,6 @@
 -- The table's classes are the paper's: of every number, since beyond the table there is no class.
 use mathlib.Core.Path.{◌≡◌, refl, sym, ap, ◌∙◌, fun_ext}
-use mathlib.Core.Bool.{Bool, true, false, and-false}
+use mathlib.Core.Bool.{Bool, true, false, ◌||◌, and-false, or_assoc, or_comm}
 use mathlib.Core.List.{List}
 use Prim.Native.Nat.{ℕ, zero, suc, ◌+◌, ◌*◌, ◌/◌, ◌%◌, ◌≤◌, ◌<◌}
 use native.Mathlib.Nat.{add-zero, zero-add, suc-add, add-suc}
@@ -8,7 +8,8 @@ use native.Mathlib.Omega.{arith}
 use lib.Dec.{ltb, eqb}
 use lib.ListN.{get_or}
 use borrow.Author.Tests.{ltb-true, ltb-false, lt-leb, le-ltb, ne_eqb}
-use Rattle.class.specs.Class.{is_hex, is_forbidden, is_line_end, Classes, paper, bit, class_of, values_from, class_table, classes_of}
+use Rattle.std.specs.Char.{is_ascii_hexdigit}
+use Rattle.class.specs.Class.{within, is_hex, is_forbidden, is_line_end, Classes, paper, bit, class_of, values_from, class_table, classes_of}
 
 -- ---- the three classes read back from the sum of their bits
 
@@ -87,3 +88,9 @@ table_classes = λ i. record { hex = h i; forbidden = f i; line_end = l i }
 -- what is said of a table's classes is said of the paper's, once the table is the one
 pub by_paper {ℓ} : {A : Type ℓ} (f : Classes → A) {t : List ℕ} → t ≡ class_table → f (classes_of t) ≡ f paper
 by_paper f e = ap (λ t. f (classes_of t)) e ∙ ap f table_classes
+
+-- ---- the library's hex digits
+
+pub hex_by_library : (b : ℕ) → is_ascii_hexdigit b ≡ is_hex b
+unfolding is_hex
+hex_by_library b = simp or_assoc (ap (λ t. within 48 57 b || t) (or_comm (within 65 70 b) (within 97 102 b)))

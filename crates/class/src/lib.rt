@@ -264,12 +264,15 @@ const CLASS: [u8; 256] = [
 ];
 
 // The table, made once and lent down: a const that is read in a loop is rebuilt at each read.
+#[tactic(auto, unfolding(crate::specs::Class::class_table, crate::specs::Class::class_of, crate::specs::Class::is_hex, crate::specs::Class::is_forbidden, crate::specs::Class::is_line_end))]
 pub fn table() -> [u8; 256]
     ensures { result ≡ class_table }
 {
     CLASS
 }
 
+// Each class has a test of its own, of one line: one test with the class as a parameter would be no shorter where it is called, and each caller would still
+// name the class.
 pub fn is_hex(t: &[u8; 256], b: u8) -> bool
     ensures { result ≡ (classes_of t.now).hex b }
 {
@@ -289,13 +292,15 @@ pub fn is_line_end(t: &[u8; 256], b: u8) -> bool
 }
 
 // Two of the classes by comparisons alone, with no table and no branch, so that a loop over a block of bytes compiles to vector code. They are the table's
-// (`table-classes`, proofs/Classes.antt).
+// (`table_classes`, proofs/Classes.antt).
+#[tactic(auto, using(crate::proofs::Classes::hex_by_library))]
 pub fn is_hex_digit(b: u8) -> bool
     ensures { result ≡ is_hex b }
 {
-    ((b'0' <= b) & (b <= b'9')) | (((b'a' <= b) & (b <= b'f')) | ((b'A' <= b) & (b <= b'F')))
+    b.is_ascii_hexdigit()
 }
 
+#[tactic(auto, unfolding(crate::specs::Class::is_line_end))]
 pub fn is_cr_or_lf(b: u8) -> bool
     ensures { result ≡ is_line_end b }
 {

@@ -8,18 +8,14 @@ use native.Mathlib.Omega.{arith}
 use lib.ListN.{get_or, length, take, drop, length-append, length-drop}
 use lib.Seq.{drop_at, length-take-le}
 use Rattle.class.specs.Class.{paper, is_hex}
-use Rattle.parse.specs.declared.limit.IdKind.TheVariants as kinds
-use Rattle.parse.specs.declared.limit.Admission.TheVariants.{Digits}
 use Rattle.parse.specs.Limit.{digits_of, over_limit, admission}
 use Rattle.parse.specs.Line.{line_len}
 use Rattle.parse.specs.Run.{span}
 use Rattle.parse.proofs.Admitted.{admits, admitted as within}
 use Rattle.parse.proofs.Fronts.{at_drop, line_len_le}
 use Rattle.header.specs.declared.Header.{Header}
-use Rattle.header.specs.declared.Opened.TheVariants as opened
 use Rattle.header.specs.Header.{header_of}
 use Rattle.decode.specs.declared.reference.Fault.{Fault}
-use Rattle.decode.specs.declared.reference.Reading.TheVariants.{Bad}
 use Rattle.decode.specs.Record.{record_of}
 use Rattle.decode.proofs.Records.{View, is_bad_lem, plain, peeled, view}
 use Rattle.start.specs.Start.{start_line, start_answer}
@@ -33,7 +29,6 @@ use Rattle.handed.specs.Hands.{line_after}
 use Rattle.handed.proofs.Lines.{read_from_lines}
 use Rattle.handed.proofs.TrueLines.{true_lines}
 use Rattle.handed.proofs.Iterations.{reads_file}
-use Rattle.checks.specs.declared.Verdict.TheVariants.{Clean}
 use Rattle.checks.specs.Check.{check_of}
 use Rattle.checks.specs.Passes.{all_good}
 use Rattle.checks.proofs.Asked.{passed, opened_as, some_digits}
@@ -46,18 +41,20 @@ use Rattle.damage.proofs.HeaderKept.{header_kept, number_kept, start_kept}
 use Rattle.damage.proofs.Resync as after
 use Rattle.damage.proofs.Resync.{After, resync}
 use Rattle.damage.proofs.Traces.{ending, begun, Begun, beginning_append, none_from, cut_from, joined, records_alike, no_errors, later}
+use Rattle.std.specs.declared.option.Option.TheVariants.{Some}
+use Rattle.std.specs.declared.result.Result.TheVariants.{Err, Ok}
 
 module _ (n : ℕ) (pos : 0 < n) where
   -- ---- a line that begins with `^` is an error
 
-  caret_bad : (c : List ℕ) → get_or c 0 0 ≡ 94 → (f : Fault) × (record_of paper n c ≡ Bad f)
+  caret_bad : (c : List ℕ) → get_or c 0 0 ≡ 94 → (f : Fault) × (record_of paper n c ≡ Err f)
   unfolding is_hex
   caret_bad c h = go (view paper n c)
     where
       no_id : n ≤ span is_hex c → ⊥
       no_id l = let z : span is_hex c ≡ 0 = ap (span is_hex) (at_drop 94 (omega arith) 0 c h) in omega arith
 
-      go : View paper n c → (f : Fault) × (record_of paper n c ≡ Bad f)
+      go : View paper n c → (f : Fault) × (record_of paper n c ≡ Err f)
       go (is_bad_lem f w e) = (f, e)
       go (plain q _ _) = absurd (no_id q.id)
       go (peeled q _ _ _) = absurd (no_id q.id)
@@ -67,7 +64,7 @@ module _ (n : ℕ) (pos : 0 < n) where
   inside (b ∷ c) h = omega arith
 
   caret_first : (c : List ℕ) → get_or c 0 0 ≡ 94
-      → (f : Fault) × (items paper n c ≡ record { what = Bad f; bytes = take (line_len c) c } ∷ items paper n (drop (line_len c) c))
+      → (f : Fault) × (items paper n c ≡ record { what = Err f; bytes = take (line_len c) c } ∷ items paper n (drop (line_len c) c))
   unfolding size_of
   caret_first c h =
       let (f, e) = caret_bad c h in
@@ -96,7 +93,7 @@ module _ (n : ℕ) (pos : 0 < n) where
     -- the same as before; or a `^` line has lost the record that it belonged to, and stands alone before them
     data Resumed : Type 0 where
       alike : from other ≡ from run → Resumed
-      lone : (f : Fault) → from other ≡ record { what = Bad f; bytes = take (line_len c) c } ∷ items paper n (drop (line_len c) c) → from other ≡ items paper n c
+      lone : (f : Fault) → from other ≡ record { what = Err f; bytes = take (line_len c) c } ∷ items paper n (drop (line_len c) c) → from other ≡ items paper n c
           → from run ≡ items paper n (drop (line_len c) c) → Resumed
 
     resumed : Resumed
@@ -112,7 +109,7 @@ module _ (n : ℕ) (pos : 0 < n) where
 
   -- ---- what is handed out of a file with x in place of the run
 
-  module _ (header kept rest x : List ℕ) (h : Header) (reads : header_of paper (whole header kept x rest) ≡ opened.Header h) (at : h.body ≡ length header) where
+  module _ (header kept rest x : List ℕ) (h : Header) (reads : header_of paper (whole header kept x rest) ≡ Ok h) (at : h.body ≡ length header) where
     body_is : drop h.body (whole header kept x rest) ≡ kept ++ (x ++ rest)
     body_is = drop_at header (kept ++ (x ++ rest)) h.body (sym at)
 
@@ -241,11 +238,11 @@ no_other : over_limit 0 ≡ false
 unfolding over_limit
 no_other = refl
 
-checked_good : (n : ℕ) (file : List ℕ) {head : Header} {count : ℕ} → header_of paper file ≡ opened.Header head → check_of paper n file ≡ Clean count
+checked_good : (n : ℕ) (file : List ℕ) {head : Header} {count : ℕ} → header_of paper file ≡ Ok head → check_of paper n file ≡ Ok count
     → all_good (items paper n (drop head.body file)) ≡ true
 checked_good n file {head} e v = (judged n head.body (items paper n (drop head.body file)) (sym (read paper n file e) ∙ v)).good
 
-module _ (kind n : ℕ) (d : digits_of kind ≡ kinds.Digits n) (header left run other rest : List ℕ) (r : Replaced kind header left run other rest) where
+module _ (kind n : ℕ) (d : digits_of kind ≡ Some n) (header left run other rest : List ℕ) (r : Replaced kind header left run other rest) where
   abbrev file : List ℕ
   file = whole header left run rest
 
@@ -255,10 +252,10 @@ module _ (kind n : ℕ) (d : digits_of kind ≡ kinds.Digits n) (header left run
   pos : 0 < n
   pos = some_digits kind n d
 
-  opens : header_of paper file ≡ opened.Header r.head
+  opens : header_of paper file ≡ Ok r.head
   opens = opened_as file r.head r.reads
 
-  opens' : header_of paper damaged ≡ opened.Header r.head
+  opens' : header_of paper damaged ≡ Ok r.head
   opens' = header_kept paper header (left ++ (run ++ rest)) (left ++ (other ++ rest)) r.head opens r.behind r.no_hash
 
   good : all_good (items paper n (left ++ (run ++ rest))) ≡ true
@@ -283,7 +280,7 @@ module _ (kind n : ℕ) (d : digits_of kind ≡ kinds.Digits n) (header left run
       let (between, order) = in_order n pos header left run other k a c fine in
       record { records = rw (is, was) records; between = between; in_order = rw (is, was) order; errors = rw (is, was) errors }
 
-  admitted : admission kind (length damaged) 0 ≡ Digits n
+  admitted : admission kind (length damaged) 0 ≡ Ok n
   admitted = admits kind (length damaged) 0 d r.limit no_other
 
   pub kept : Kept kind n header left run other rest

@@ -10,14 +10,16 @@ use lib.Seq.{drop-append-le, take-append-le, length-take-le}
 use borrow.Author.Tests.{ltb-true}
 use Rattle.parse.specs.Choice.{if}
 use Rattle.class.specs.Class.{Classes}
-use Rattle.decode.specs.declared.reference.Reading.{Reading}
-use Rattle.decode.specs.declared.reference.Reading.TheVariants.{Good, Bad}
 use Rattle.decode.specs.Record.{record_of}
 use Rattle.decode.proofs.Locality.{record_local}
 use Rattle.iter.specs.Items.{Item, size_of, item_of, items}
 use Rattle.checks.specs.Passes.{is_good, all_good}
 use Rattle.damage.proofs.Cuts.{end_before, end_zero}
 use Rattle.iter.proofs.Items.{items_step, size_good, size_le, size_some}
+use Rattle.std.specs.declared.result.Result.{Result}
+use Rattle.std.specs.declared.result.Result.TheVariants.{Err, Ok}
+use Rattle.decode.specs.declared.reference.Fault.{Fault}
+use Rattle.decode.specs.declared.reference.Record.{Record}
 
 module _ (byte : Classes) (n : ℕ) where
   good_first : (s : List ℕ) → 0 < length s → all_good (items byte n s) ≡ true
@@ -38,13 +40,13 @@ module _ (byte : Classes) (n : ℕ) where
         → (item_of byte n (u ++ r') ≡ item_of byte n (u ++ r)) × (size_of byte n (u ++ r') ≡ size_of byte n (u ++ r))
     stays u g l = go (record_of byte n (u ++ r)) refl g
       where
-        go : (w : Reading) → record_of byte n (u ++ r) ≡ w → is_good w ≡ true
+        go : (w : Result Record Fault) → record_of byte n (u ++ r) ≡ w → is_good w ≡ true
             → (item_of byte n (u ++ r') ≡ item_of byte n (u ++ r)) × (size_of byte n (u ++ r') ≡ size_of byte n (u ++ r))
-        go (Bad f) e h = (cc, cc)
-        go (Good found) e h =
+        go (Err f) e h = (cc, cc)
+        go (Ok found) e h =
             let k = found.size in
             let s : size_of byte n (u ++ r) ≡ k = size_good byte n (u ++ r) found e in
-            let e' : record_of byte n (u ++ r') ≡ Good found = record_local byte n u r r' found e (omega arith) in
+            let e' : record_of byte n (u ++ r') ≡ Ok found = record_local byte n u r r' found e (omega arith) in
             let s' : size_of byte n (u ++ r') ≡ k = size_good byte n (u ++ r') found e' in
             let t : take k (u ++ r') ≡ take k (u ++ r) = take-append-le k u r' (omega arith) ∙ sym (take-append-le k u r (omega arith)) in
             (cc, cc)

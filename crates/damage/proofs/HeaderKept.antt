@@ -8,17 +8,16 @@ use lib.Dec.{eqb}
 use lib.ListN.{get_or, length, take, drop, length-drop}
 use lib.Seq.{drop-append-le, take-append-le}
 use borrow.Author.Tests.{eq-eqb, ne_eqb}
-use Rattle.parse.specs.declared.line.Text.TheVariants.{Ended}
 use Rattle.class.specs.Class.{Classes}
-use Rattle.parse.specs.Line.{text_at}
+use Rattle.parse.specs.Line.{text_at, text_ends}
 use Rattle.compare.specs.Prefix.{begins}
 use Rattle.parse.proofs.Fronts.{same_at}
 use Rattle.header.specs.declared.Header.{Header}
-use Rattle.header.specs.declared.Opened.TheVariants as opened
 use Rattle.header.specs.Header.{mark, tokens, all_noted, plain_header, header_of}
 use Rattle.header.proofs.Headers.{no_hash, header_read, all_noted_body, HeaderView, none, unreadable, some, header_view}
 use Rattle.start.specs.Start.{start_line, start_of}
 use Rattle.damage.proofs.TextKept.{ends, text_local}
+use Rattle.std.specs.declared.result.Result.TheVariants.{Ok}
 
 begins_local : (w u r r' : List ℕ) → length w ≤ length u → begins w (u ++ r) ≡ true → begins w (u ++ r') ≡ true
 begins_local [] u r r' l h = refl
@@ -36,15 +35,15 @@ module _
     (byte : Classes)
     (h b b' : List ℕ)
     (head : Header)
-    (reads : header_of byte (h ++ b) ≡ opened.Header head)
+    (reads : header_of byte (h ++ b) ≡ Ok head)
     (behind : head.body ≡ length h)
     (hash : h ≡ [] → get_or (h ++ b') 0 0 ≡ 35 → ⊥)
   where
-    kept : (header_of byte (h ++ b') ≡ opened.Header head) × (start_line (h ++ b') ≡ start_line (h ++ b))
+    kept : (header_of byte (h ++ b') ≡ Ok head) × (start_line (h ++ b') ≡ start_line (h ++ b))
     unfolding start_line
     kept = go (header_view byte (h ++ b))
       where
-        go : HeaderView byte (h ++ b) → (header_of byte (h ++ b') ≡ opened.Header head) × (start_line (h ++ b') ≡ start_line (h ++ b))
+        go : HeaderView byte (h ++ b) → (header_of byte (h ++ b') ≡ Ok head) × (start_line (h ++ b') ≡ start_line (h ++ b))
         go (none c f) =
             let e : head ≡ plain_header 0 = cc in
             let z : head.body ≡ 0 = ap (λ (x : Header). x.body) e in
@@ -58,12 +57,12 @@ module _
             let lv : length (drop 18 h) ≡ length h - 18 = length-drop 18 h in
             let c' : get_or (h ++ b') 0 0 ≡ 35 = same_at h b b' 0 (omega arith) ∙ c in
             let m' : begins mark (h ++ b') ≡ true = begins_local mark h b b' (omega arith) m in
-            let t' : text_at byte (h ++ b') 18 ≡ Ended end next = text_local byte 18 h b b' t (omega arith) in
+            let t' : text_at byte (h ++ b') 18 ≡ text_ends end next = text_local byte 18 h b b' t (omega arith) in
             let words : (x : List ℕ) → take (end - 18) (drop 18 (h ++ x)) ≡ take (end - 18) (drop 18 h) =
             λ x. ap (take (end - 18)) (drop-append-le 18 h x (omega arith)) ∙ take-append-le (end - 18) (drop 18 h) x (omega arith) in
             (header_read byte (h ++ b') c' m' t' ∙ rw (words b', e, words b), rw (eq-eqb _ _ c, eq-eqb _ _ c'))
 
-    pub header_kept : header_of byte (h ++ b') ≡ opened.Header head
+    pub header_kept : header_of byte (h ++ b') ≡ Ok head
     header_kept = kept.0
 
     pub number_kept : start_line (h ++ b') ≡ start_line (h ++ b)

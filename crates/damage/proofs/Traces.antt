@@ -9,8 +9,6 @@ use lib.Dec.{leb, ltb}
 use lib.ListN.{length, length-append}
 use borrow.Author.Tests.{leb-true, leb-false, le-leb, lt-leb, ltb-true, ltb-false, lt-ltb, le-ltb}
 use Rattle.parse.specs.Choice.{if}
-use Rattle.decode.specs.declared.reference.Reading.{Reading}
-use Rattle.decode.specs.declared.reference.Reading.TheVariants.{Good, Bad}
 use Rattle.decode.specs.Entry.{entry_of}
 use Rattle.iter.specs.Items.{Item, bytes_of}
 use Rattle.handed.specs.Handed.{Handed, good, error, Given, line_over, handed_by, handed_at, handed, whats}
@@ -18,6 +16,10 @@ use Rattle.handed.specs.Lines.{Each}
 use Rattle.checks.specs.Passes.{is_good, all_good}
 use Rattle.damage.specs.Damage.{ending_before, beginning_from, record_by, records_in}
 use Rattle.damage.proofs.Cuts.{end_before, begin_from, begin_all}
+use Rattle.std.specs.declared.result.Result.{Result}
+use Rattle.std.specs.declared.result.Result.TheVariants.{Err, Ok}
+use Rattle.decode.specs.declared.reference.Fault.{Fault}
+use Rattle.decode.specs.declared.reference.Record.{Record}
 
 module _ (n : ℕ) where
   -- ---- those that end before a place
@@ -129,9 +131,9 @@ module _ (n : ℕ) where
 
   -- ---- where all items are records, place and number do not show, and there is no error
 
-  good_what : (a b : Option ℕ) (bytes : List ℕ) (w : Reading) → is_good w ≡ true → handed_by n a bytes w ≡ handed_by n b bytes w
-  good_what a b bytes (Good r) h = refl
-  good_what a b bytes (Bad f) h = cc
+  good_what : (a b : Option ℕ) (bytes : List ℕ) (w : Result Record Fault) → is_good w ≡ true → handed_by n a bytes w ≡ handed_by n b bytes w
+  good_what a b bytes (Ok r) h = refl
+  good_what a b bytes (Err f) h = cc
 
   pub records_alike : (at : ℕ) (line : Option ℕ) (at' : ℕ) (line' : Option ℕ) (l : List Item) → all_good l ≡ true → records_in (handed n at line l) ≡ whats (handed n at' line' l)
   records_alike at line at' line' [] g = refl
@@ -145,10 +147,10 @@ module _ (n : ℕ) where
       rest' : List Given
       rest' = handed n (at' + length i.bytes) (line_over line' i) l
 
-      go : (w : Reading) → is_good w ≡ true → records_in rest ≡ whats rest'
+      go : (w : Result Record Fault) → is_good w ≡ true → records_in rest ≡ whats rest'
           → record_by (handed_by n line i.bytes w) (records_in rest) ≡ handed_by n line' i.bytes w ∷ whats rest'
-      go (Good r) h e = ap (λ (x : List Handed). good (entry_of n i.bytes r) ∷ x) e
-      go (Bad f) h e = cc
+      go (Ok r) h e = ap (λ (x : List Handed). good (entry_of n i.bytes r) ∷ x) e
+      go (Err f) h e = cc
 
   pub no_errors : (P : Given → Type 0) (at : ℕ) (line : Option ℕ) (l : List Item) → all_good l ≡ true
       → Each (λ g. (k : ℕ) (text : List ℕ) → g.what ≡ error k text → P g) (handed n at line l)
@@ -157,9 +159,9 @@ module _ (n : ℕ) where
       let both = (and-eq-true_iff (is_good i.what) (all_good l)).0 g in
       (go i.what both.0, no_errors P (at + length i.bytes) (line_over line i) l both.1)
     where
-      go : (w : Reading) → is_good w ≡ true → (k : ℕ) (text : List ℕ) → handed_by n line i.bytes w ≡ error k text → P (handed_at n at line i)
-      go (Good r) h k text e = absurd (let z : ◌≡◌ {A = ℕ} 0 1 = cc in omega arith)
-      go (Bad f) h k text e = absurd (let z : ◌≡◌ {A = ℕ} 0 1 = cc in omega arith)
+      go : (w : Result Record Fault) → is_good w ≡ true → (k : ℕ) (text : List ℕ) → handed_by n line i.bytes w ≡ error k text → P (handed_at n at line i)
+      go (Ok r) h k text e = absurd (let z : ◌≡◌ {A = ℕ} 0 1 = cc in omega arith)
+      go (Err f) h k text e = absurd (let z : ◌≡◌ {A = ℕ} 0 1 = cc in omega arith)
 
   pub later : (at : ℕ) (line : Option ℕ) (l : List Item) (place : ℕ) → place ≤ at → Each (λ g. place ≤ g.place) (handed n at line l)
   later at line [] place h = tt

@@ -1,18 +1,13 @@
 -- Demand 3: what a reader is handed where a run of a checked file's bytes is replaced by others.
-use Rattle.std.specs.Prelude.{◌≡◌, false, List, [], ◌∷◌, ◌++◌, ℕ, suc, ◌+◌, ◌≤◌, leb, ltb, get_or, length}
+use Rattle.std.specs.Prelude.{◌≡◌, false, List, [], ◌∷◌, ◌++◌, ℕ, suc, ◌+◌, ◌≤◌, leb, ltb, get_or, length, Some, Ok}
 use Rattle.std.proofs.Math.Option.{Option}
 use Rattle.parse.specs.Choice.{if}
 use Rattle.class.specs.Class.{paper}
-use Rattle.parse.specs.declared.limit.IdKind.TheVariants.{Digits}
 use Rattle.parse.specs.Limit.{digits_of, over_limit}
 use Rattle.parse.specs.Line.{line_len}
 use Rattle.header.specs.declared.Header.{Header}
-use Rattle.header.specs.declared.Opened.TheVariants as opened
-use Rattle.header.specs.declared.HeaderAnswer.TheVariants as headed
 use Rattle.header.specs.Header.{header_answer}
-use Rattle.start.specs.declared.StartAnswer.TheVariants as started
 use Rattle.start.specs.Start.{start_of, start_answer}
-use Rattle.iter.specs.declared.step.StepAnswer.TheVariants as stepped
 use Rattle.walker.specs.declared.Walked.{Walked}
 use Rattle.iter.specs.Step.{step_of}
 use Rattle.walker.specs.Walk.{line_behind, walk_answer}
@@ -20,8 +15,6 @@ use Rattle.handed.specs.Handed.{Handed, good, error, Given, whats}
 use Rattle.handed.specs.Iteration.{said_end, read_of, out_of, stop_of}
 use Rattle.handed.specs.Lines.{InLines, Each}
 use Rattle.handed.specs.TrueLines.{TrueLines}
-use Rattle.checks.specs.declared.Verdict.TheVariants.{Clean}
-use Rattle.checks.specs.declared.CheckAnswer.TheVariants as checked
 use Rattle.checks.specs.Check.{check_answer}
 
 -- ---- the file: header, the bytes that are left in front of the run, the run, the rest
@@ -33,9 +26,9 @@ whole header left run rest = header ++ (left ++ (run ++ rest))
 -- making `#` the first byte)": `#` is 35
 pub record Replaced (kind : ℕ) (header left run other rest : List ℕ) : Type 0 where
   pub count : ℕ
-  pub passes : check_answer kind (whole header left run rest) ≡ checked.Done (Clean count)
+  pub passes : check_answer kind (whole header left run rest) ≡ Ok (Ok count)
   pub head : Header
-  pub reads : header_answer (whole header left run rest) ≡ headed.Done (opened.Header head)
+  pub reads : header_answer (whole header left run rest) ≡ Ok (Ok head)
   pub behind : head.body ≡ length header
   pub limit : over_limit (length (whole header left other rest)) ≡ false
   pub no_hash : header ≡ [] → get_or (whole header left other rest) 0 0 ≡ 35 → ⊥
@@ -102,11 +95,11 @@ module _ (n : ℕ) (header left : List ℕ) (run other a c : List ℕ) where
 abbrev pub walks_to : ℕ → List ℕ → ℕ → ℕ → Walked
 walks_to n file place line =
     let step = step_of paper n [] file place line in
-    record { answer = stepped.Done step; line = line_behind file place line step }
+    record { answer = Ok step; line = line_behind file place line step }
 
 pub record Kept (kind n : ℕ) (header left run other rest : List ℕ) : Type 0 where
   -- "Read from the start": each call answers what the reading is made of
-  pub starts : start_answer kind (whole header left other rest) ≡ started.Done (start_of paper (whole header left other rest))
+  pub starts : start_answer kind (whole header left other rest) ≡ Ok (start_of paper (whole header left other rest))
   pub steps : (place line : ℕ) → walk_answer kind (whole header left other rest) place line ≡ walks_to n (whole header left other rest) place line
   -- it starts at the same place and on the same line as before
   pub start : start_of paper (whole header left other rest) ≡ start_of paper (whole header left run rest)
@@ -128,5 +121,5 @@ pub record Kept (kind n : ℕ) (header left run other rest : List ℕ) : Type 0 
 -- for both kinds
 abbrev pub Demand3 : Type 0
 Demand3 =
-    (kind n : ℕ) → digits_of kind ≡ Digits n → (header left run other rest : List ℕ) → Replaced kind header left run other rest
+    (kind n : ℕ) → digits_of kind ≡ Some n → (header left run other rest : List ℕ) → Replaced kind header left run other rest
     → Kept kind n header left run other rest

@@ -10,9 +10,10 @@ use Rattle.class.specs.Class.{Classes, paper, is_hex, is_line_end}
 use Rattle.parse.specs.Line.{eol, line_len, text_len}
 use Rattle.parse.proofs.Fronts.{at_drop, same_at, span_local, span_ge, line_len_skip, eol_local, eol_line, hex_no10, text_no10}
 use Rattle.decode.specs.declared.reference.Record.{Record}
-use Rattle.decode.specs.declared.reference.Reading.TheVariants.{Good}
 use Rattle.decode.specs.Record.{record_of}
 use Rattle.decode.proofs.Records.{name_len, after_name, head_len, Head, peel_len, Peel, View, is_bad_lem, plain, peeled, view, plain_is, peeled_is}
+use Rattle.std.specs.declared.option.Option.TheVariants.{None, Some}
+use Rattle.std.specs.declared.result.Result.TheVariants.{Ok}
 
 -- text and its line end are determined by their bytes
 module _ (byte : Classes) (v r r' : List ℕ)
@@ -77,19 +78,19 @@ module _ (byte : Classes) (n : ℕ) where
       let end : eol (drop (suc n) (u ++ r')) ≡ eol (drop (suc n) (u ++ r)) = rw (d, d') (eol_local v r r' (omega (arith, h.end)) (omega arith)) in
       (record { id = rw c' (span_ge byte.hex n (drop 1 u) r r' (omega arith) (rw c at h.id)); end = omega (arith, h.end) }, omega arith)
 
-  pub record_local : (u r r' : List ℕ) (found : Record) → record_of byte n (u ++ r) ≡ Good found → found.size < length u → record_of byte n (u ++ r') ≡ Good found
+  pub record_local : (u r r' : List ℕ) (found : Record) → record_of byte n (u ++ r) ≡ Ok found → found.size < length u → record_of byte n (u ++ r') ≡ Ok found
   record_local u r r' found g l = go (view byte n (u ++ r))
     where
-      go : View byte n (u ++ r) → record_of byte n (u ++ r') ≡ Good found
+      go : View byte n (u ++ r) → record_of byte n (u ++ r') ≡ Ok found
       go (is_bad_lem f w e) = cc
       go (plain h c e) =
-          let w : found ≡ record { name_len = name_len byte n (u ++ r); peeled = 0; size = head_len byte n (u ++ r) } = cc in
+          let w : found ≡ record { name_len = name_len byte n (u ++ r); peeled = None; size = head_len byte n (u ++ r) } = cc in
           let q : head_len byte n (u ++ r) ≡ found.size = sym (ap (λ (x : Record). x.size) w) in
           let (h', nm, hl) = head_local u r r' h (omega arith) in
           let at : get_or (u ++ r') (head_len byte n (u ++ r')) 0 ≡ get_or (u ++ r) (head_len byte n (u ++ r)) 0 = rw hl (same_at u r r' (head_len byte n (u ++ r)) (omega arith)) in
           plain_is byte n (u ++ r') h' (λ z. c (sym at ∙ z)) ∙ rw (nm, hl, w)
       go (peeled h c p e) =
-          let w : found ≡ record { name_len = name_len byte n (u ++ r); peeled = suc (head_len byte n (u ++ r)); size = head_len byte n (u ++ r) + peel_len byte n (drop (head_len byte n (u ++ r)) (u ++ r)) } = cc in
+          let w : found ≡ record { name_len = name_len byte n (u ++ r); peeled = Some (suc (head_len byte n (u ++ r))); size = head_len byte n (u ++ r) + peel_len byte n (drop (head_len byte n (u ++ r)) (u ++ r)) } = cc in
           let q : head_len byte n (u ++ r) + peel_len byte n (drop (head_len byte n (u ++ r)) (u ++ r)) ≡ found.size = sym (ap (λ (x : Record). x.size) w) in
           let (h', nm, hl) = head_local u r r' h (omega arith) in
           let j = head_len byte n (u ++ r) in

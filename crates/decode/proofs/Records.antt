@@ -1,20 +1,17 @@
 -- Records by their two lines: what a good one is made of, how long it is, and that its own bytes determine it.
 use mathlib.Core.Path.{◌≡◌, refl, sym, ap, ◌∙◌}
 use mathlib.Core.Bool.{Bool, true, false}
-use mathlib.Core.Logic.{◌⊎◌, inl, inr}
 use mathlib.Core.List.{List}
 use Prim.Native.Nat.{ℕ, suc, ◌+◌, ◌-◌, ◌≤◌, ◌<◌}
 use native.Mathlib.Nat.{zero-add}
 use native.Mathlib.Omega.{arith}
 use lib.ListN.{get_or, length, take, drop, length-drop}
 use lib.Seq.{drop-drop}
-use Rattle.parse.specs.declared.part.Past.TheVariants.{At}
-use Rattle.parse.specs.declared.line.Text.TheVariants.{Ended}
 use Rattle.class.specs.Class.{Classes}
 use Rattle.parse.specs.Run.{span}
 use Rattle.parse.specs.Part.{byte_at}
 use Rattle.id.specs.Id.{id_at}
-use Rattle.parse.specs.Line.{eol, text_len, text_at}
+use Rattle.parse.specs.Line.{eol, text_len, text_at, text_ends}
 use Rattle.parse.proofs.Fronts.{eol_le}
 use Rattle.id.proofs.Ids.{IdView, id, no_id, id_view}
 use Rattle.parse.proofs.Views.{ByteView, there, not_there, byte_view, NewlineView, newline, no_newline, newline_view, text_end, TextView, text, no_text, text_view}
@@ -22,14 +19,16 @@ use Rattle.name.specs.Name.{valid_name}
 use Rattle.decode.specs.declared.reference.Fault.{Fault}
 use Rattle.decode.specs.declared.reference.Fault.TheVariants.{Id, Space, LineEnd, Name, Peeled}
 use Rattle.decode.specs.declared.reference.Record.{Record}
-use Rattle.decode.specs.declared.reference.Reading.{Reading}
-use Rattle.decode.specs.declared.reference.Reading.TheVariants.{Good, Bad}
 use Rattle.decode.specs.Record.{record_of}
 use Rattle.decode.proofs.Parts as parts
+use Rattle.std.specs.declared.option.Option.{Option}
+use Rattle.std.specs.declared.option.Option.TheVariants.{None, Some}
+use Rattle.std.specs.declared.result.Result.{Result}
+use Rattle.std.specs.declared.result.Result.TheVariants.{Err, Ok}
 
-pub good_alike : {a a' o o' z z' : ℕ} → a ≡ a' → o ≡ o' → z ≡ z'
-    → ◌≡◌ {A = Reading} (Good (record { name_len = a; peeled = o; size = z })) (Good (record { name_len = a'; peeled = o'; size = z' }))
-good_alike p q r = λ i. Good (record { name_len = p i; peeled = q i; size = r i })
+pub good_alike : {a a' z z' : ℕ} {o o' : Option ℕ} → a ≡ a' → o ≡ o' → z ≡ z'
+    → ◌≡◌ {A = Result Record Fault} (Ok (record { name_len = a; peeled = o; size = z })) (Ok (record { name_len = a'; peeled = o'; size = z' }))
+good_alike p q r = λ i. Ok (record { name_len = p i; peeled = q i; size = r i })
 
 module _ (byte : Classes) (n : ℕ) where
   -- ---- the two lines of a record. A length says how far the line goes where it can be read
@@ -59,10 +58,10 @@ module _ (byte : Classes) (n : ℕ) where
   -- ---- what a record is
 
   pub data View (s : List ℕ) : Type 0 where
-    is_bad_lem : (f : Fault) → (Head s → (get_or s (head_len s) 0 ≡ 94 → Peel (drop (head_len s) s)) → ⊥) → record_of byte n s ≡ Bad f → View s
-    plain : Head s → (get_or s (head_len s) 0 ≡ 94 → ⊥) → record_of byte n s ≡ Good (record { name_len = name_len s; peeled = 0; size = head_len s }) → View s
+    is_bad_lem : (f : Fault) → (Head s → (get_or s (head_len s) 0 ≡ 94 → Peel (drop (head_len s) s)) → ⊥) → record_of byte n s ≡ Err f → View s
+    plain : Head s → (get_or s (head_len s) 0 ≡ 94 → ⊥) → record_of byte n s ≡ Ok (record { name_len = name_len s; peeled = None; size = head_len s }) → View s
     peeled : Head s → get_or s (head_len s) 0 ≡ 94 → Peel (drop (head_len s) s)
-        → record_of byte n s ≡ Good (record { name_len = name_len s; peeled = suc (head_len s); size = head_len s + peel_len (drop (head_len s) s) }) → View s
+        → record_of byte n s ≡ Ok (record { name_len = name_len s; peeled = Some (suc (head_len s)); size = head_len s + peel_len (drop (head_len s) s) }) → View s
 
   -- the places that the reading goes through, by the two lines' lengths
   module _ (s : List ℕ) where
@@ -105,11 +104,11 @@ module _ (byte : Classes) (n : ℕ) where
     -- the first line was read
     module _
         (digits : n ≤ span byte.hex s)
-        (id_at_lem : id_at byte n s 0 ≡ At (0 + n))
+        (id_at_lem : id_at byte n s 0 ≡ Some (0 + n))
         (blank : get_or s (0 + n) 0 ≡ 32)
-        (space-at : byte_at 32 s (0 + n) ≡ At from)
+        (space-at : byte_at 32 s (0 + n) ≡ Some from)
         (ends : 0 < eol (drop end s))
-        (text_at_lem : text_at byte s from ≡ Ended end next)
+        (text_at_lem : text_at byte s from ≡ text_ends end next)
         (valid : valid_name byte (take (end - from) (drop from s)) ≡ true)
       where
         head : Head s
@@ -127,7 +126,7 @@ module _ (byte : Classes) (n : ℕ) where
         next_suc : next + 1 + n ≡ next + suc n
         next_suc = omega arith
 
-        second_line_lem : get_or s next 0 ≡ 94 → byte_at 94 s next ≡ At (next + 1) → IdView byte n s (next + 1) → NewlineView s (next + 1 + n) → View s
+        second_line_lem : get_or s next 0 ≡ 94 → byte_at 94 s next ≡ Some (next + 1) → IdView byte n s (next + 1) → NewlineView s (next + 1 + n) → View s
         unfolding peel_len
         second_line_lem c caret-at (no_id h e) w =
             is_bad_lem Peeled (λ q p. omega (arith, (p (next_byte 94 c)).id, ap (span byte.hex) (past_is 1)))
@@ -140,7 +139,7 @@ module _ (byte : Classes) (n : ℕ) where
             let d2 : drop (next + 1 + n) s ≡ drop (suc n) (drop (head_len s) s) = ap (λ (k : ℕ). drop k s) next_suc ∙ past_is (suc n) in
             let l : eol (drop (next + 1 + n) s) ≡ eol (drop (suc n) (drop (head_len s) s)) = ap eol d2 in
             peeled head (next_byte 94 c) (record { id = rw d1 at h; end = omega arith })
-            (parts.peeled_record byte n s id_at_lem space-at text_at_lem valid caret-at e f ∙ good_alike size_is (omega (arith, next_is)) (omega (arith, next_is)))
+            (parts.peeled_record byte n s id_at_lem space-at text_at_lem valid caret-at e f ∙ good_alike size_is (ap Some (omega (arith, next_is))) (omega (arith, next_is)))
 
         behind_first : ByteView 94 s next → View s
         behind_first (there l c caret-at) = second_line_lem c caret-at (id_view byte n s (next + 1)) (newline_view s (next + 1 + n))
@@ -148,7 +147,7 @@ module _ (byte : Classes) (n : ℕ) where
             plain head (λ z. other (ap (λ (k : ℕ). get_or s k 0) next_is ∙ z))
             (parts.plain_record byte n s id_at_lem space-at text_at_lem valid e ∙ good_alike size_is refl next_is)
 
-    view_text : n ≤ span byte.hex s → id_at byte n s 0 ≡ At (0 + n) → get_or s (0 + n) 0 ≡ 32 → byte_at 32 s (0 + n) ≡ At from
+    view_text : n ≤ span byte.hex s → id_at byte n s 0 ≡ Some (0 + n) → get_or s (0 + n) 0 ≡ 32 → byte_at 32 s (0 + n) ≡ Some from
         → TextView byte s from → (v : Bool) → valid_name byte (take (end - from) (drop from s)) ≡ v → View s
     view_text i p b q (no_text z e) v w = is_bad_lem LineEnd (λ h c. omega (arith, h.end, ap eol end_drop)) (parts.no_line_end byte n s p q e)
     view_text i p b q (text some e) false w =
@@ -156,7 +155,7 @@ module _ (byte : Classes) (n : ℕ) where
         (parts.no_name byte n s p q e w)
     view_text i p b q (text some e) true w = behind_first i p b q some e w (byte_view 94 (omega arith) s next)
 
-    view_space : n ≤ span byte.hex s → id_at byte n s 0 ≡ At (0 + n) → ByteView 32 s (0 + n) → View s
+    view_space : n ≤ span byte.hex s → id_at byte n s 0 ≡ Some (0 + n) → ByteView 32 s (0 + n) → View s
     view_space i p (not_there other e) = is_bad_lem Space (λ h c. other (ap (λ (k : ℕ). get_or s k 0) (zero-add n) ∙ h.space)) (parts.no_space byte n s p e)
     view_space i p (there l b q) = view_text i p b q (text_view byte s from) (valid_name byte (take (end - from) (drop from s))) refl
 
@@ -184,40 +183,40 @@ module _ (byte : Classes) (n : ℕ) where
   pub record Fits (s : List ℕ) (r : Record) : Type 0 where
     pub inside : r.size ≤ length s
     pub holds : suc n + r.name_len < r.size
-    pub peeled : (r.peeled ≡ 0) ⊎ ((suc n + r.name_len < r.peeled) × (r.peeled + n < r.size))
+    pub peeled : (at : ℕ) → r.peeled ≡ Some at → (suc n + r.name_len < at) × (at + n < r.size)
 
-  pub fits : (s : List ℕ) (r : Record) → record_of byte n s ≡ Good r → Fits s r
+  pub fits : (s : List ℕ) (r : Record) → record_of byte n s ≡ Ok r → Fits s r
   fits s r e = go (view s)
     where
       go : View s → Fits s r
       go (is_bad_lem f x q) = absurd (let z : ◌≡◌ {A = ℕ} 0 1 = cc in omega arith)
       go (plain h c q) =
-          let w : r ≡ record { name_len = name_len s; peeled = 0; size = head_len s } = cc in
+          let w : r ≡ record { name_len = name_len s; peeled = None; size = head_len s } = cc in
           let z = head_fits s h in
-          rw w (record { inside = z.0; holds = z.1; peeled = inl refl })
+          rw w (record { inside = z.0; holds = z.1; peeled = λ at e. absurd (let y : ◌≡◌ {A = ℕ} 0 1 = cc in omega arith) })
       go (peeled h c p q) =
-          let w : r ≡ record { name_len = name_len s; peeled = suc (head_len s); size = head_len s + peel_len (drop (head_len s) s) } = cc in
+          let w : r ≡ record { name_len = name_len s; peeled = Some (suc (head_len s)); size = head_len s + peel_len (drop (head_len s) s) } = cc in
           let z = head_fits s h in
           let y = peel_fits (drop (head_len s) s) p in
           let l = length-drop (head_len s) s in
-          rw w (record { inside = omega (arith, z.0, y.0); holds = omega (arith, z.1); peeled = inr (omega (arith, z.1), omega (arith, y.1)) })
+          rw w (record { inside = omega (arith, z.0, y.0); holds = omega (arith, z.1); peeled = λ at e. let q : suc (head_len s) ≡ at = cc in (omega (arith, z.1), omega (arith, y.1)) })
 
   -- ---- locality: a good record is determined by its bytes and the byte behind them
 
-  pub plain_is : (s : List ℕ) → Head s → (get_or s (head_len s) 0 ≡ 94 → ⊥) → record_of byte n s ≡ Good (record { name_len = name_len s; peeled = 0; size = head_len s })
+  pub plain_is : (s : List ℕ) → Head s → (get_or s (head_len s) 0 ≡ 94 → ⊥) → record_of byte n s ≡ Ok (record { name_len = name_len s; peeled = None; size = head_len s })
   plain_is s h c = go (view s)
     where
-      go : View s → record_of byte n s ≡ Good (record { name_len = name_len s; peeled = 0; size = head_len s })
+      go : View s → record_of byte n s ≡ Ok (record { name_len = name_len s; peeled = None; size = head_len s })
       go (is_bad_lem f whole e) = absurd (whole h (λ z. absurd (c z)))
       go (plain k d e) = e
       go (peeled k d p e) = absurd (c d)
 
   pub peeled_is : (s : List ℕ) → Head s → get_or s (head_len s) 0 ≡ 94 → Peel (drop (head_len s) s)
-      → record_of byte n s ≡ Good (record { name_len = name_len s; peeled = suc (head_len s); size = head_len s + peel_len (drop (head_len s) s) })
+      → record_of byte n s ≡ Ok (record { name_len = name_len s; peeled = Some (suc (head_len s)); size = head_len s + peel_len (drop (head_len s) s) })
   peeled_is s h c p = go (view s)
     where
       go : View s
-          → record_of byte n s ≡ Good (record { name_len = name_len s; peeled = suc (head_len s); size = head_len s + peel_len (drop (head_len s) s) })
+          → record_of byte n s ≡ Ok (record { name_len = name_len s; peeled = Some (suc (head_len s)); size = head_len s + peel_len (drop (head_len s) s) })
       go (is_bad_lem f whole e) = absurd (whole h (λ z. p))
       go (plain k d e) = absurd (d c)
       go (peeled k d q e) = e

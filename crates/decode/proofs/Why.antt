@@ -7,10 +7,8 @@ use native.Mathlib.Nat.{zero-add}
 use native.Mathlib.Omega.{arith}
 use lib.ListN.{get_or, take, drop}
 use Rattle.class.specs.Class.{Classes}
-use Rattle.parse.specs.declared.part.Past.TheVariants.{At, Unread}
-use Rattle.parse.specs.declared.line.Text.TheVariants.{Ended, Unended}
 use Rattle.parse.specs.Part.{byte_at}
-use Rattle.parse.specs.Line.{text_at}
+use Rattle.parse.specs.Line.{text_at, text_ends}
 use Rattle.parse.proofs.Views.{ByteView, there, not_there, byte_view, NewlineView, newline, no_newline, newline_view, TextView, text, no_text, text_view}
 use Rattle.id.specs.Id.{id_at}
 use Rattle.id.proofs.Ids.{IdView, no_id, id_view}
@@ -18,53 +16,54 @@ use Rattle.id.proofs.Ids as ids
 use Rattle.name.specs.Name.{valid_name}
 use Rattle.decode.specs.declared.reference.Fault.{Fault}
 use Rattle.decode.specs.declared.reference.Fault.TheVariants.{Peeled}
-use Rattle.decode.specs.declared.reference.Reading.TheVariants.{Bad}
 use Rattle.decode.specs.Record.{record_of}
 use Rattle.decode.specs.Why.{HasId, HasSpace, HasLineEnd, HasName, name_len, name_end, second, Why, id, space, line_end_lem, name, peeled, EachHasItsReason}
 use Rattle.decode.proofs.Parts as parts
+use Rattle.std.specs.declared.option.Option.TheVariants.{None, Some}
+use Rattle.std.specs.declared.result.Result.TheVariants.{Err}
 
 module _ (byte : Classes) (n : ℕ) (s : List ℕ) where
   -- ---- a part that is there is read, and one that is not is not
 
-  id_at_lem : HasId byte n s → id_at byte n s 0 ≡ At n
+  id_at_lem : HasId byte n s → id_at byte n s 0 ≡ Some n
   id_at_lem h = go (id_view byte n s 0)
     where
-      go : IdView byte n s 0 → id_at byte n s 0 ≡ At n
-      go (ids.id l e) = e ∙ ap At (zero-add n)
+      go : IdView byte n s 0 → id_at byte n s 0 ≡ Some n
+      go (ids.id l e) = e ∙ ap Some (zero-add n)
       go (no_id l e) = absurd (omega arith)
 
-  no_id_at : (HasId byte n s → ⊥) → id_at byte n s 0 ≡ Unread
+  no_id_at : (HasId byte n s → ⊥) → id_at byte n s 0 ≡ None
   no_id_at h = go (id_view byte n s 0)
     where
-      go : IdView byte n s 0 → id_at byte n s 0 ≡ Unread
+      go : IdView byte n s 0 → id_at byte n s 0 ≡ None
       go (ids.id l e) = absurd (h l)
       go (no_id l e) = e
 
-  byte_at_lem : (b at : ℕ) → 0 < b → get_or s at 0 ≡ b → byte_at b s at ≡ At (at + 1)
+  byte_at_lem : (b at : ℕ) → 0 < b → get_or s at 0 ≡ b → byte_at b s at ≡ Some (at + 1)
   byte_at_lem b at some h = go (byte_view b some s at)
     where
-      go : ByteView b s at → byte_at b s at ≡ At (at + 1)
+      go : ByteView b s at → byte_at b s at ≡ Some (at + 1)
       go (there l q e) = e
       go (not_there other e) = absurd (other h)
 
-  no_byte_at : (b at : ℕ) → 0 < b → (get_or s at 0 ≡ b → ⊥) → byte_at b s at ≡ Unread
+  no_byte_at : (b at : ℕ) → 0 < b → (get_or s at 0 ≡ b → ⊥) → byte_at b s at ≡ None
   no_byte_at b at some h = go (byte_view b some s at)
     where
-      go : ByteView b s at → byte_at b s at ≡ Unread
+      go : ByteView b s at → byte_at b s at ≡ None
       go (there l q e) = absurd (h q)
       go (not_there other e) = e
 
-  text_at_lem : HasLineEnd byte n s → text_at byte s (n + 1) ≡ Ended (name_end byte n s) (second byte n s)
+  text_at_lem : HasLineEnd byte n s → text_at byte s (n + 1) ≡ text_ends (name_end byte n s) (second byte n s)
   text_at_lem h = go (text_view byte s (n + 1))
     where
-      go : TextView byte s (n + 1) → text_at byte s (n + 1) ≡ Ended (name_end byte n s) (second byte n s)
+      go : TextView byte s (n + 1) → text_at byte s (n + 1) ≡ text_ends (name_end byte n s) (second byte n s)
       go (text some e) = e
       go (no_text none e) = absurd (omega arith)
 
-  no_text_at : (HasLineEnd byte n s → ⊥) → text_at byte s (n + 1) ≡ Unended
+  no_text_at : (HasLineEnd byte n s → ⊥) → text_at byte s (n + 1) ≡ None
   no_text_at h = go (text_view byte s (n + 1))
     where
-      go : TextView byte s (n + 1) → text_at byte s (n + 1) ≡ Unended
+      go : TextView byte s (n + 1) → text_at byte s (n + 1) ≡ None
       go (text some e) = absurd (h some)
       go (no_text none e) = e
 
@@ -80,24 +79,24 @@ module _ (byte : Classes) (n : ℕ) (s : List ℕ) where
 
   -- ---- from the reason to the reading
 
-  told : {f : Fault} → Why byte n s f → record_of byte n s ≡ Bad f
+  told : {f : Fault} → Why byte n s f → record_of byte n s ≡ Err f
   told (id h) = parts.no_id byte n s (no_id_at h)
   told (space i h) = parts.no_space byte n s (id_at_lem i) (no_byte_at 32 n (omega arith) h)
   told (line_end_lem i b h) = parts.no_line_end byte n s (id_at_lem i) (byte_at_lem 32 n (omega arith) b) (no_text_at h)
   told (name i b l h) = parts.no_name byte n s (id_at_lem i) (byte_at_lem 32 n (omega arith) b) (text_at_lem l) (cut ∙ not_valid _ h)
   told (peeled i b l v c h) = go (id_view byte n s (second byte n s + 1)) (newline_view s (second byte n s + 1 + n))
     where
-      caret : byte_at 94 s (second byte n s) ≡ At (second byte n s + 1)
+      caret : byte_at 94 s (second byte n s) ≡ Some (second byte n s + 1)
       caret = byte_at_lem 94 (second byte n s) (omega arith) c
 
-      go : IdView byte n s (second byte n s + 1) → NewlineView s (second byte n s + 1 + n) → record_of byte n s ≡ Bad Peeled
+      go : IdView byte n s (second byte n s + 1) → NewlineView s (second byte n s + 1 + n) → record_of byte n s ≡ Err Peeled
       go (no_id k e) w = parts.no_peeled_id byte n s (id_at_lem i) (byte_at_lem 32 n (omega arith) b) (text_at_lem l) (cut ∙ v) caret e
       go (ids.id k e) (no_newline z w) = parts.no_peeled_end byte n s (id_at_lem i) (byte_at_lem 32 n (omega arith) b) (text_at_lem l) (cut ∙ v) caret e w
       go (ids.id k e) (newline z w) = absurd (h (k, z))
 
   -- ---- and back: the reading goes through the parts, and ends at the first that is not there
 
-  module _ (f : Fault) (bad : record_of byte n s ≡ Bad f) where
+  module _ (f : Fault) (bad : record_of byte n s ≡ Err f) where
     is : {g : Fault} → Why byte n s g → Why byte n s f
     is {g} w = let e : g ≡ f = cc (told w) in subst (Why byte n s) e w
 

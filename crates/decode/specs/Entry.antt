@@ -1,6 +1,8 @@
 -- What a record says: its name, its id, and its peeled id if it has one. Both ids are in digits.
-use Rattle.std.specs.Prelude.{List, ℕ, zero, suc, ◌+◌, take, drop}
+use Rattle.std.specs.Prelude.{List, ℕ, ◌+◌, take, drop}
 use Rattle.std.proofs.Math.Option.{Option, none, some}
+use Rattle.std.specs.declared.option.Option as std
+use Rattle.std.specs.declared.option.Option.TheVariants.{Some, None}
 use Rattle.decode.specs.declared.reference.Record.{Record}
 
 pub record Entry : Type 0 where
@@ -8,10 +10,10 @@ pub record Entry : Type 0 where
   pub id : List ℕ
   pub peeled : Option (List ℕ)
 
--- where there is a peeled id, it stands at a place that is not 0
-abbrev pub peeled_id : ℕ → List ℕ → ℕ → Option (List ℕ)
-peeled_id n s zero = none
-peeled_id n s (suc at) = some (take n (drop (suc at) s))
+-- the peeled id, where one stands at a place
+abbrev pub peeled_id : ℕ → List ℕ → std.Option ℕ → Option (List ℕ)
+peeled_id n s None = none
+peeled_id n s (Some at) = some (take n (drop at s))
 
 -- what the record r at the front of the bytes s says, with ids of n digits: the id stands first, the name behind it and one byte
 abbrev pub entry_of : ℕ → List ℕ → Record → Entry

@@ -1,12 +1,11 @@
 -- Why a record is bad: what each of the numbers 41 to 45 says of the bytes s. n is the number of an id's digits.
-use Rattle.std.specs.Prelude.{◌≡◌, true, List, ℕ, ◌+◌, ◌≤◌, ◌<◌, get_or, take, drop}
+use Rattle.std.specs.Prelude.{◌≡◌, true, List, ℕ, ◌+◌, ◌≤◌, ◌<◌, get_or, take, drop, Err}
 use Rattle.class.specs.Class.{Classes}
 use Rattle.parse.specs.Run.{span}
 use Rattle.parse.specs.Line.{eol, text_len}
 use Rattle.name.specs.Name.{valid_name}
 use Rattle.decode.specs.declared.reference.Fault.{Fault}
 use Rattle.decode.specs.declared.reference.Fault.TheVariants.{Id, Space, LineEnd, Name, Peeled}
-use Rattle.decode.specs.declared.reference.Reading.TheVariants.{Bad}
 use Rattle.decode.specs.Record.{record_of}
 
 module _ (byte : Classes) (n : ℕ) (s : List ℕ) where
@@ -56,8 +55,8 @@ module _ (byte : Classes) (n : ℕ) (s : List ℕ) where
 
   -- a record is bad in a part exactly then
   pub record WhyBad (f : Fault) : Type 0 where
-    pub only : record_of byte n s ≡ Bad f → Why f
-    pub then! : Why f → record_of byte n s ≡ Bad f
+    pub only : record_of byte n s ≡ Err f → Why f
+    pub then! : Why f → record_of byte n s ≡ Err f
 
 -- any bytes, any classes
 abbrev pub EachHasItsReason : Type 0

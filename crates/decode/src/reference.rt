@@ -4,16 +4,15 @@ ghost use Rattle.class.specs.Class.{paper};
 ghost use Rattle.decode.specs.Record.{record_of};
 
 use parse::line::Text;
-use parse::part::Past;
 
-// The first part of a record that can't be read.
+// The first part of a record that can't be read, by its number.
 #[derive(Clone, Copy)]
 pub enum Fault {
-    Id,
-    Space,
-    LineEnd,
-    Name,
-    Peeled,
+    Id = 41,
+    Space = 42,
+    LineEnd = 43,
+    Name = 44,
+    Peeled = 45,
 }
 
 // A good record, by places counted from its start: the id stands at 0, the name behind the id and one space.
@@ -21,51 +20,46 @@ pub enum Fault {
 pub struct Record {
     // The name's length.
     pub name_len: usize,
-    // Where the peeled id stands, or 0 where there is none.
-    pub peeled: usize,
+    // Where the peeled id stands, if there is one.
+    pub peeled: Option<usize>,
     // The bytes that the record takes, line ends included.
     pub size: usize,
 }
 
-#[derive(Clone, Copy)]
-pub enum Reading {
-    Good(Record),
-    Bad(Fault),
-}
-
 // The record at the front of the bytes, with ids of n digits.
-pub fn reference(s: &[u8], n: usize) -> Reading
+pub fn reference(s: &[u8], n: usize) -> Result<Record, Fault>
     ensures { result ≡ record_of paper n s.now }
 {
-    let Past::At(id_end) = id::hex_hash(s, 0, n) else {
-        return Reading::Bad(Fault::Id);
+    let Some(id_end) = id::hex_hash(s, 0, n) else {
+        return Err(Fault::Id);
     };
-    let Past::At(from) = parse::part::past_byte(s, id_end, b' ') else {
-        return Reading::Bad(Fault::Space);
+    let Some(from) = parse::part::past_byte(s, id_end, b' ') else {
+        return Err(Fault::Space);
     };
-    let Text::Ended { end, next } = parse::line::until_line_end(s, from) else {
-        return Reading::Bad(Fault::LineEnd);
+    let Some(Text { end, next }) = parse::line::until_line_end(s, from) else {
+        return Err(Fault::LineEnd);
     };
-    if !name::is_valid(parse::part::between(s, from, end)) {
-        return Reading::Bad(Fault::Name);
+    let is_name = name::is_valid(parse::part::between(s, from, end));
+    if !is_name {
+        return Err(Fault::Name);
     }
     let name_len = end - from;
-    let Past::At(peeled) = parse::part::past_byte(s, next, b'^') else {
-        return Reading::Good(Record {
+    let Some(peeled) = parse::part::past_byte(s, next, b'^') else {
+        return Ok(Record {
             name_len,
-            peeled: 0,
+            peeled: None,
             size: next,
         });
     };
-    let Past::At(peeled_end) = id::hex_hash(s, peeled, n) else {
-        return Reading::Bad(Fault::Peeled);
+    let Some(peeled_end) = id::hex_hash(s, peeled, n) else {
+        return Err(Fault::Peeled);
     };
-    let Past::At(size) = parse::line::newline(s, peeled_end) else {
-        return Reading::Bad(Fault::Peeled);
+    let Some(size) = parse::line::newline(s, peeled_end) else {
+        return Err(Fault::Peeled);
     };
-    Reading::Good(Record {
+    Ok(Record {
         name_len,
-        peeled,
+        peeled: Some(peeled),
         size,
     })
 }
@@ -74,14 +68,6 @@ pub fn reference(s: &[u8], n: usize) -> Reading
 pub fn name_of(s: &[u8], n: usize, found: Record) -> &[u8]
     ensures { result.now ≡ take found.name_len (drop (n + 1) s.now) }
 {
-    let len = found.name_len;
-    if s.len() <= n {
-        return &s[0..0];
-    }
-    let from = n + 1;
-    if s.len() - from <= len {
-        return &s[from..];
-    }
-    let to = from + len;
-    &s[from..to]
+    let from = n.saturating_add(1);
+    parse::part::between(s, from, from.saturating_add(found.name_len))
 }

@@ -10,11 +10,9 @@ use native.Mathlib.Omega.{arith}
 use lib.ListN.{length, drop, length-drop}
 use borrow.Author.Tests.{le-ltb, ltb-false}
 use Rattle.class.specs.Class.{paper}
-use Rattle.parse.specs.declared.limit.IdKind.TheVariants as kinds
 use Rattle.parse.specs.Limit.{digits_of, over_limit}
 use Rattle.parse.proofs.Admitted.{admits}
 use Rattle.name.specs.Name.{valid_name}
-use Rattle.header.specs.declared.Opened.TheVariants as opened
 use Rattle.header.specs.Header.{header_of}
 use Rattle.decode.specs.declared.reference.Record.{Record}
 use Rattle.start.specs.Start.{start_line}
@@ -24,18 +22,17 @@ use Rattle.handed.specs.Handed.{Given, handed, whats}
 use Rattle.handed.specs.Iteration.{said_end, read_of, out_of}
 use Rattle.handed.specs.Hands.{line_after}
 use Rattle.handed.proofs.Iterations.{reads_file}
-use Rattle.checks.specs.declared.Verdict.TheVariants.{Clean}
 use Rattle.checks.specs.Check.{check_of}
 use Rattle.checks.proofs.Asked.{passed, opened_as, some_digits}
 use Rattle.find.specs.declared.lookup.Lookup.TheVariants.{Charted, Absent}
-use Rattle.find.specs.declared.lookup.LookupAnswer.TheVariants as looked
-use Rattle.find.specs.declared.prefix_start.PrefixStartAnswer.TheVariants as listed
 use Rattle.find.specs.Lookup.{lookup_of, lookup_answer, lookup_number}
 use Rattle.find.specs.PrefixStart.{prefix_start_answer}
 use Rattle.find.specs.Present.{FoundExactly, ListsExactly, with_prefix}
 use Rattle.find.proofs.InFile.{body_passes, found_in_file, lists_in_file}
 use Rattle.demands.specs.Found.{Checked, body_of, found, FoundIfThere, wanted, ListedIfWanted, Demand2}
 use Rattle.demands.proofs.Handed.{stood, stands_in, wanted_is}
+use Rattle.std.specs.declared.option.Option.TheVariants.{Some}
+use Rattle.std.specs.declared.result.Result.TheVariants.{Ok}
 
 -- a part of bytes within the limit is within it
 small_part : (k : ℕ) (s : List ℕ) → over_limit (length s) ≡ false → over_limit (length (drop k s)) ≡ false
@@ -48,14 +45,14 @@ no_lines [] = refl
 no_lines (i ∷ l) = no_lines l
 
 -- a lookup that is admitted and does not meet what the check rules out
-module _ (kind n : ℕ) (d : digits_of kind ≡ kinds.Digits n) (file : List ℕ) (c : Checked kind file) where
+module _ (kind n : ℕ) (d : digits_of kind ≡ Some n) (file : List ℕ) (c : Checked kind file) where
   body : List ℕ
   body = body_of c
 
-  clean : check_of paper n file ≡ Clean c.count
+  clean : check_of paper n file ≡ Ok c.count
   clean = (passed kind n d file c.count c.passes).0
 
-  opens : header_of paper file ≡ opened.Header c.header
+  opens : header_of paper file ≡ Ok c.header
   opens = opened_as file c.header c.reads
 
   small : over_limit (length (body_of c)) ≡ false
@@ -68,7 +65,7 @@ module _ (kind n : ℕ) (d : digits_of kind ≡ kinds.Digits n) (file : List ℕ
     exactly : FoundExactly n (body_of c) name
     exactly = (found_in_file n (some_digits kind n d) file name valid).behind c.count c.header clean opens
 
-    answer : lookup_answer kind (body_of c) name ≡ looked.Done (lookup_of paper n (body_of c) name)
+    answer : lookup_answer kind (body_of c) name ≡ Ok (lookup_of paper n (body_of c) name)
     unfolding lookup_answer
     answer = rw (admits kind (length (body_of c)) (length name) d small short)
 
@@ -83,7 +80,7 @@ module _ (kind n : ℕ) (d : digits_of kind ≡ kinds.Digits n) (file : List ℕ
           there =
               λ g x h.
               let y = stood n (body_of c) c.header.body (some (start_line file)) name g (rw out_is at x) h in
-              (y.place, y.r, answer ∙ ap looked.Done (exactly.found y.place y.r y.named), y.is);
+              (y.place, y.r, answer ∙ ap Ok (exactly.found y.place y.r y.named), y.is);
           only =
               λ place r e.
               let z : lookup_of paper n (body_of c) name ≡ Charted place r = let w = sym answer ∙ e in cc in
@@ -91,13 +88,13 @@ module _ (kind n : ℕ) (d : digits_of kind ≡ kinds.Digits n) (file : List ℕ
               (rw out_is y.0, y.1);
           absent =
               λ no. answer
-              ∙ ap looked.Done
+              ∙ ap Ok
               (exactly.absent
               (λ place r x. let y = stands_in n (body_of c) c.header.body (some (start_line file)) name place r x in no (found kind n file c name place r) (rw out_is y.0) y.1));
           none =
               λ e g x h.
               let y = stood n (body_of c) c.header.body (some (start_line file)) name g (rw out_is at x) h in
-              let z : looked.Done Absent ≡ looked.Done (Charted y.place y.r) = sym e ∙ answer ∙ ap looked.Done (exactly.found y.place y.r y.named) in
+              let z : Ok Absent ≡ Ok (Charted y.place y.r) = sym e ∙ answer ∙ ap Ok (exactly.found y.place y.r y.named) in
               let w : ◌≡◌ {A = ℕ} 0 1 = cc in
               omega arith;
           answers = numbered exactly.either;
@@ -114,7 +111,7 @@ module _ (kind n : ℕ) (d : digits_of kind ≡ kinds.Digits n) (file : List ℕ
         let l = with_prefix n prefix (items paper n (body_of c)) in
         record {
           place = lists.place;
-          starts = rw admitted (ap listed.Done lists.start);
+          starts = rw admitted (ap Ok lists.start);
           steps = λ at. rw admitted;
           out = handed n lists.place no_line l;
           run = λ turns h. lists.all turns h ∙ ap (λ o. record { out = handed n lists.place no_line l; stop = said_end (length (body_of c)) o }) (no_lines l);

@@ -11,8 +11,6 @@ use Rattle.parse.specs.Choice.{if}
 use Rattle.class.specs.Class.{paper}
 use Rattle.compare.specs.Prefix.{begins}
 use Rattle.decode.specs.declared.reference.Record.{Record}
-use Rattle.decode.specs.declared.reference.Reading.{Reading}
-use Rattle.decode.specs.declared.reference.Reading.TheVariants.{Good, Bad}
 use Rattle.decode.specs.Entry.{Entry, entry_of}
 use Rattle.iter.specs.Items.{Item, items, bytes_of, name_of}
 use Rattle.iter.specs.Stands.{Stands, Named}
@@ -21,6 +19,9 @@ use Rattle.handed.specs.Handed.{Handed, good, Given, given, line_over, handed_by
 use Rattle.checks.specs.Passes.{is_good, all_good}
 use Rattle.find.specs.Present.{with_prefix}
 use Rattle.demands.specs.Found.{In, Has, wanted_by, wanted}
+use Rattle.std.specs.declared.result.Result.{Result}
+use Rattle.std.specs.declared.result.Result.TheVariants.{Err, Ok}
+use Rattle.decode.specs.declared.reference.Fault.{Fault}
 
 module _ (n : ℕ) where
   -- an line that is handed out, among some that begin at a place
@@ -82,10 +83,10 @@ module _ (n : ℕ) where
         let k : Has wanted (handed_by n y.line y.it.bytes y.it.what) = rw y.is at h in
         go y.it.what y refl stands k
       where
-        go : (w : Reading) (y : FromItem at (items paper n s) g) → y.it.what ≡ w → Stands paper n s (length (bytes_of y.before)) y.it
+        go : (w : Result Record Fault) (y : FromItem at (items paper n s) g) → y.it.what ≡ w → Stands paper n s (length (bytes_of y.before)) y.it
             → Has wanted (handed_by n y.line y.it.bytes w) → Stood at wanted g
-        go (Bad f) y e stands k = absurd k
-        go (Good r) y e stands k =
+        go (Err f) y e stands k = absurd k
+        go (Ok r) y e stands k =
             let (long, parts) = stands_as n s stands e in
             record {
               place = length (bytes_of y.before);
@@ -119,13 +120,13 @@ module _ (n : ℕ) where
       one : (y : Entry) (b : Bool) → begins prefix y.name ≡ b → wanted_by prefix (good y) others ≡ if b (good y ∷ others) others
       one y b e = ap (λ (v : Bool). if v (good y ∷ others) others) e
 
-      go : (w : Reading) → i.what ≡ w → is_good w ≡ true → (b : Bool) → begins prefix (name_of n i) ≡ b
+      go : (w : Result Record Fault) → i.what ≡ w → is_good w ≡ true → (b : Bool) → begins prefix (name_of n i) ≡ b
           → ((p : ℕ) (k : Option ℕ) → whats (handed n p k (with_prefix n prefix l)) ≡ others)
           → whats (handed n at line (if b (i ∷ with_prefix n prefix l) (with_prefix n prefix l)))
           ≡ wanted_by prefix (handed_by n line' i.bytes i.what) others
-      go (Bad f) e h b q ih = absurd (let z : ◌≡◌ {A = ℕ} 0 1 = cc in omega arith)
-      go (Good r) e h true q ih =
+      go (Err f) e h b q ih = absurd (let z : ◌≡◌ {A = ℕ} 0 1 = cc in omega arith)
+      go (Ok r) e h true q ih =
           rw e
           (ap (λ (m : List Handed). good (entry_of n i.bytes r) ∷ m) (ih (at + length i.bytes) (line_over line i))
           ∙ sym (one (entry_of n i.bytes r) true (rw e at q)))
-      go (Good r) e h false q ih = rw e (ih at line ∙ sym (one (entry_of n i.bytes r) false (rw e at q)))
+      go (Ok r) e h false q ih = rw e (ih at line ∙ sym (one (entry_of n i.bytes r) false (rw e at q)))

@@ -9,8 +9,6 @@ use lib.Dec.{eqb, ltb}
 use lib.ListN.{length, drop}
 use borrow.Author.Tests.{ne_eqb, le-ltb}
 use Rattle.parse.specs.Choice.{if}
-use Rattle.parse.specs.declared.limit.Admission.{Admission}
-use Rattle.parse.specs.declared.limit.Admission.TheVariants as admitted
 use Rattle.parse.specs.Limit.{over_limit, admission, admission_number}
 use Rattle.class.specs.Class.{Classes, paper}
 use Rattle.compare.specs.Order.{smaller}
@@ -20,70 +18,60 @@ use Rattle.reply_file.specs.Head.{name_number}
 use Rattle.decode.specs.declared.reference.Fault.{Fault}
 use Rattle.decode.specs.declared.reference.Fault.TheVariants.{Id, Space, LineEnd, Name, Peeled}
 use Rattle.decode.specs.declared.reference.Record.{Record}
-use Rattle.decode.specs.declared.reference.Reading.{Reading}
-use Rattle.decode.specs.declared.reference.Reading.TheVariants.{Good, Bad}
 use Rattle.decode.specs.Record.{record_of, fault_number}
-use Rattle.header.specs.declared.Opened.TheVariants as opened
-use Rattle.header.specs.declared.HeaderAnswer.{HeaderAnswer}
-use Rattle.header.specs.declared.HeaderAnswer.TheVariants as headed
 use Rattle.header.specs.Header.{header_answer, header_number}
-use Rattle.start.specs.declared.Start.TheVariants as start
-use Rattle.start.specs.declared.StartAnswer.{StartAnswer}
-use Rattle.start.specs.declared.StartAnswer.TheVariants as started
 use Rattle.start.specs.Start.{start_answer, start_number}
-use Rattle.iter.specs.declared.step.StepAnswer.{StepAnswer}
-use Rattle.iter.specs.declared.step.StepAnswer.TheVariants as stepped
 use Rattle.iter.specs.Items.{Item, items, name_in}
 use Rattle.iter.specs.Step.{plain_answer, prefix_answer, step_number}
 use Rattle.walker.specs.Walk.{walk_answer}
 use Rattle.checks.specs.declared.Refusal.{Refusal}
 use Rattle.checks.specs.declared.Refusal.TheVariants as refusal
-use Rattle.checks.specs.declared.Verdict.{Verdict}
-use Rattle.checks.specs.declared.Verdict.TheVariants as verdict
-use Rattle.checks.specs.declared.CheckAnswer.{CheckAnswer}
-use Rattle.checks.specs.declared.CheckAnswer.TheVariants as checked
-use Rattle.checks.specs.declared.Turn.TheVariants as turn
 use Rattle.checks.specs.Check.{check_of, check_answer, check_number, refusal_number, verdict_number, turn_by, turn_of, turn_number}
 use Rattle.checks.proofs.Passes.{Says, says}
 use Rattle.checks.proofs.CheckMeans.{read}
 use Rattle.ask.specs.declared.Told.{Told}
 use Rattle.ask.specs.declared.Told.TheVariants as told
-use Rattle.ask.specs.declared.AskAnswer.{AskAnswer}
-use Rattle.ask.specs.declared.AskAnswer.TheVariants as asked
 use Rattle.ask.specs.Ask.{ask_of, ask_answer, ask_number, ask_fault}
 use Rattle.ask.proofs.Trusted.{trusted}
-use Rattle.find.specs.declared.prefix_start.PrefixStart.TheVariants as prefixed
-use Rattle.find.specs.declared.prefix_start.PrefixStartAnswer.{PrefixStartAnswer}
-use Rattle.find.specs.declared.prefix_start.PrefixStartAnswer.TheVariants as listed
-use Rattle.search.specs.declared.Halved.{Halved}
-use Rattle.search.specs.declared.Halved.TheVariants.{Hit, Miss}
 use Rattle.search.specs.Search.{search_of}
 use Rattle.find.specs.Lookup.{lookup_of, lookup_answer, lookup_number}
 use Rattle.find.specs.Hits.{number_of}
 use Rattle.find.proofs.Hits.{hit_or_miss}
 use Rattle.find.specs.PrefixStart.{prefix_start_answer, prefix_start_number}
-use Rattle.loose.specs.declared.Loose.TheVariants as loose
-use Rattle.loose.specs.declared.LooseAnswer.{LooseAnswer}
-use Rattle.loose.specs.declared.LooseAnswer.TheVariants as loosely
 use Rattle.loose.specs.Loose.{loose_answer, loose_number}
 use Rattle.edit.specs.declared.EditFault.TheVariants as edit
 use Rattle.places.specs.declared.name.Layout.TheVariants as layout
 use Rattle.places.specs.Name.{standing_name}
-use Rattle.sort.specs.declared.twin.Twin.{Twin}
-use Rattle.sort.specs.declared.twin.Twin.TheVariants as twin
 use Rattle.sort.specs.Sorted.{sorted}
 use Rattle.sort.specs.Twin.{first_twin}
 use Rattle.edits.specs.declared.list.ListFault.{ListFault}
 use Rattle.edits.specs.declared.list.ListFault.TheVariants as fault
-use Rattle.edits.specs.declared.list.Prepared.{Prepared}
-use Rattle.edits.specs.declared.list.Prepared.TheVariants as prepared
 use Rattle.edits.specs.List.{Listed, all, bad, edits_of, in_order, twins_by, twins_of, prepared_of, index_after, list_fault_number, prepared_number}
-use Rattle.merge.specs.declared.Merged.{Merged}
-use Rattle.merge.specs.declared.Merged.TheVariants.{Done, UnknownKind, TooLarge, BadList, ShortIndex, Twins, Refused, NothingToDo, NoRecord, ShortOutput}
 use Rattle.merge.specs.Override.{Override}
 use Rattle.merge.specs.Merge as merged
 use Rattle.merge.specs.Merge.{overridden, is_idle, new_file, old_entries, edits_in_order, finished, judged_by, judged, merge_of, output_of, merge_answer, merge_number, output_by, output_after, index_answer}
 use Rattle.demands.specs.Refused.{AnsweredBy, bad_record, before_eleven, Filled, Leaves, Demand1}
+use Rattle.std.specs.declared.option.Option.{Option}
+use Rattle.std.specs.declared.option.Option.TheVariants.{None, Some}
+use Rattle.std.specs.declared.result.Result.{Result}
+use Rattle.std.specs.declared.result.Result.TheVariants.{Err, Ok}
+use Rattle.edits.specs.declared.list.NotPrepared.{NotPrepared}
+use Rattle.edits.specs.declared.list.NotPrepared.TheVariants as not_prepared
+use Rattle.find.specs.declared.prefix_start.BadStart.{BadStart}
+use Rattle.header.specs.declared.BadHeader.{BadHeader}
+use Rattle.header.specs.declared.Header.{Header}
+use Rattle.iter.specs.declared.step.Step.{Step}
+use Rattle.loose.specs.declared.Loose.{Loose}
+use Rattle.loose.specs.declared.Loose.TheVariants as loose
+use Rattle.loose.specs.declared.LooseFault.{LooseFault}
+use Rattle.loose.specs.declared.LooseFault.TheVariants.{BadTarget, Unreadable}
+use Rattle.merge.specs.declared.NotMerged.{NotMerged}
+use Rattle.merge.specs.declared.NotMerged.TheVariants as not_merged
+use Rattle.parse.specs.declared.limit.NotAdmitted.{NotAdmitted}
+use Rattle.parse.specs.declared.limit.NotAdmitted.TheVariants.{TooLarge, UnknownKind}
+use Rattle.parse.specs.declared.limit.TooLarge as large
+use Rattle.search.specs.declared.Miss.{Miss}
+use Rattle.start.specs.declared.Start.{Start}
 
 -- ---- each answer has one of its numbers
 
@@ -94,10 +82,10 @@ by_part l id space end name peeled LineEnd = end
 by_part l id space end name peeled Name = name
 by_part l id space end name peeled Peeled = peeled
 
-header_number_lem : (a : HeaderAnswer) → AnsweredBy (header_number a) (0 ∷ 17 ∷ 2 ∷ [])
-header_number_lem (headed.Done (opened.Header h)) = refl
-header_number_lem (headed.Done (opened.Unreadable k)) = refl
-header_number_lem headed.TooLarge = refl
+header_number_lem : (a : Result (Result Header BadHeader) large.TooLarge) → AnsweredBy (header_number a) (0 ∷ 17 ∷ 2 ∷ [])
+header_number_lem (Ok (Ok h)) = refl
+header_number_lem (Ok (Err broken)) = refl
+header_number_lem (Err too_large) = refl
 
 name_number_lem : (name : List ℕ) → AnsweredBy (name_number name) (0 ∷ 17 ∷ 3 ∷ [])
 unfolding name_number
@@ -108,24 +96,24 @@ name_number_lem name = go (over_limit (length name)) (valid_name paper name)
     go false true = refl
     go false false = refl
 
-start_number_lem : (a : StartAnswer) → AnsweredBy (start_number a) (0 ∷ 1 ∷ 17 ∷ 2 ∷ [])
-start_number_lem (started.Done (start.At place item)) = refl
-start_number_lem (started.Done (start.BadHeader k)) = refl
-start_number_lem started.UnknownKind = refl
-start_number_lem started.TooLarge = refl
+start_number_lem : (a : Result (Result Start BadHeader) NotAdmitted) → AnsweredBy (start_number a) (0 ∷ 1 ∷ 17 ∷ 2 ∷ [])
+start_number_lem (Ok (Ok start)) = refl
+start_number_lem (Ok (Err broken)) = refl
+start_number_lem (Err UnknownKind) = refl
+start_number_lem (Err TooLarge) = refl
 
-step_number_lem : (a : StepAnswer) → AnsweredBy (step_number a) (0 ∷ 1 ∷ 17 ∷ [])
-step_number_lem (stepped.Done r) = refl
-step_number_lem stepped.UnknownKind = refl
-step_number_lem stepped.TooLarge = refl
+step_number_lem : (a : Result Step NotAdmitted) → AnsweredBy (step_number a) (0 ∷ 1 ∷ 17 ∷ [])
+step_number_lem (Ok r) = refl
+step_number_lem (Err UnknownKind) = refl
+step_number_lem (Err TooLarge) = refl
 
-check_number_lem : (a : CheckAnswer) → AnsweredBy (check_number a) (0 ∷ 1 ∷ 17 ∷ 2 ∷ 6 ∷ bad_record)
-check_number_lem (checked.Done (verdict.Clean count)) = refl
-check_number_lem (checked.Done (verdict.Refused (refusal.BadHeader k))) = refl
-check_number_lem (checked.Done (verdict.Refused (refusal.BadRecord place f))) = by_part (0 ∷ 1 ∷ 17 ∷ 2 ∷ 6 ∷ bad_record) refl refl refl refl refl f
-check_number_lem (checked.Done (verdict.Refused (refusal.Unsorted place))) = refl
-check_number_lem checked.UnknownKind = refl
-check_number_lem checked.TooLarge = refl
+check_number_lem : (a : Result (Result ℕ Refusal) NotAdmitted) → AnsweredBy (check_number a) (0 ∷ 1 ∷ 17 ∷ 2 ∷ 6 ∷ bad_record)
+check_number_lem (Ok (Ok count)) = refl
+check_number_lem (Ok (Err (refusal.BadHeader k))) = refl
+check_number_lem (Ok (Err (refusal.BadRecord place f))) = by_part (0 ∷ 1 ∷ 17 ∷ 2 ∷ 6 ∷ bad_record) refl refl refl refl refl f
+check_number_lem (Ok (Err (refusal.Unsorted place))) = refl
+check_number_lem (Err UnknownKind) = refl
+check_number_lem (Err TooLarge) = refl
 
 -- by how the search ends
 looked_number : (n : ℕ) (body name : List ℕ) → AnsweredBy (number_of n body name) (0 ∷ 1 ∷ 17 ∷ 3 ∷ 41 ∷ 45 ∷ 4 ∷ 5 ∷ [])
@@ -137,51 +125,54 @@ looked_number n body name = go (valid_name paper name) refl (search_of paper n b
     by_hit k (inr (inl e)) = rw e
     by_hit k (inr (inr e)) = rw e
 
-    go : (b : Bool) → valid_name paper name ≡ b → (h : Halved) → search_of paper n body name ≡ h
+    by_miss : (failed : Bool) → number_of n body name ≡ if failed 4 5 → AnsweredBy (number_of n body name) (0 ∷ 1 ∷ 17 ∷ 3 ∷ 41 ∷ 45 ∷ 4 ∷ 5 ∷ [])
+    by_miss true e = rw e
+    by_miss false e = rw e
+
+    go : (b : Bool) → valid_name paper name ≡ b → (h : Result ℕ Miss) → search_of paper n body name ≡ h
         → AnsweredBy (number_of n body name) (0 ∷ 1 ∷ 17 ∷ 3 ∷ 41 ∷ 45 ∷ 4 ∷ 5 ∷ [])
     go false v h e = rw v
-    go true v (Hit place) e = by_hit (number_of n body name) ((hit_or_miss n body name v).hit place e)
-    go true v (Miss place true) e = rw ((hit_or_miss n body name v).miss place true e)
-    go true v (Miss place false) e = rw ((hit_or_miss n body name v).miss place false e)
+    go true v (Ok place) e = by_hit (number_of n body name) ((hit_or_miss n body name v).hit place e)
+    go true v (Err miss) e = by_miss miss.failed ((hit_or_miss n body name v).miss miss.place miss.failed e)
 
 lookup_number_lem : (kind : ℕ) (body name : List ℕ) → AnsweredBy (lookup_number (lookup_answer kind body name)) (0 ∷ 1 ∷ 17 ∷ 3 ∷ 41 ∷ 45 ∷ 4 ∷ 5 ∷ [])
 unfolding lookup_answer
 lookup_number_lem kind body name = go (admission kind (length body) (length name)) refl
   where
-    go : (a : Admission) → admission kind (length body) (length name) ≡ a
+    go : (a : Result ℕ NotAdmitted) → admission kind (length body) (length name) ≡ a
         → AnsweredBy (lookup_number (lookup_answer kind body name)) (0 ∷ 1 ∷ 17 ∷ 3 ∷ 41 ∷ 45 ∷ 4 ∷ 5 ∷ [])
-    go (admitted.Digits n) e = rw e (looked_number n body name)
-    go admitted.UnknownKind e = rw e
-    go admitted.TooLarge e = rw e
+    go (Ok n) e = rw e (looked_number n body name)
+    go (Err UnknownKind) e = rw e
+    go (Err TooLarge) e = rw e
 
-prefix_start_number_lem : (a : PrefixStartAnswer) → AnsweredBy (prefix_start_number a) (0 ∷ 1 ∷ 17 ∷ 2 ∷ [])
-prefix_start_number_lem (listed.Done (prefixed.From place)) = refl
-prefix_start_number_lem (listed.Done (prefixed.BadHeader place text)) = refl
-prefix_start_number_lem listed.UnknownKind = refl
-prefix_start_number_lem listed.TooLarge = refl
+prefix_start_number_lem : (a : Result (Result ℕ BadStart) NotAdmitted) → AnsweredBy (prefix_start_number a) (0 ∷ 1 ∷ 17 ∷ 2 ∷ [])
+prefix_start_number_lem (Ok (Ok place)) = refl
+prefix_start_number_lem (Ok (Err broken)) = refl
+prefix_start_number_lem (Err UnknownKind) = refl
+prefix_start_number_lem (Err TooLarge) = refl
 
-ask_number_lem : (a : AskAnswer) → AnsweredBy (ask_number a) (0 ∷ 1 ∷ 17 ∷ 3 ∷ 5 ∷ 2 ∷ 6 ∷ bad_record)
-ask_number_lem (asked.Done (told.Charted place r v)) = refl
-ask_number_lem (asked.Done told.Absent) = refl
-ask_number_lem (asked.Done told.BadName) = refl
-ask_number_lem (asked.Done (told.Refused (refusal.BadHeader k))) = refl
-ask_number_lem (asked.Done (told.Refused (refusal.BadRecord place f))) = by_part (0 ∷ 1 ∷ 17 ∷ 3 ∷ 5 ∷ 2 ∷ 6 ∷ bad_record) refl refl refl refl refl f
-ask_number_lem (asked.Done (told.Refused (refusal.Unsorted place))) = refl
-ask_number_lem asked.UnknownKind = refl
-ask_number_lem asked.TooLarge = refl
+ask_number_lem : (a : Result Told NotAdmitted) → AnsweredBy (ask_number a) (0 ∷ 1 ∷ 17 ∷ 3 ∷ 5 ∷ 2 ∷ 6 ∷ bad_record)
+ask_number_lem (Ok (told.Charted place r v)) = refl
+ask_number_lem (Ok told.Absent) = refl
+ask_number_lem (Ok told.BadName) = refl
+ask_number_lem (Ok (told.Refused (refusal.BadHeader k))) = refl
+ask_number_lem (Ok (told.Refused (refusal.BadRecord place f))) = by_part (0 ∷ 1 ∷ 17 ∷ 3 ∷ 5 ∷ 2 ∷ 6 ∷ bad_record) refl refl refl refl refl f
+ask_number_lem (Ok (told.Refused (refusal.Unsorted place))) = refl
+ask_number_lem (Err UnknownKind) = refl
+ask_number_lem (Err TooLarge) = refl
 
 -- what stands beside charted is never about the header: it was read
-told_fault : (n : ℕ) (file name : List ℕ) (w : Told) → ask_of paper n file name ≡ w → AnsweredBy (ask_fault (asked.Done w)) (0 ∷ 6 ∷ bad_record)
+told_fault : (n : ℕ) (file name : List ℕ) (w : Told) → ask_of paper n file name ≡ w → AnsweredBy (ask_fault (Ok w)) (0 ∷ 6 ∷ bad_record)
 told_fault n file name (told.Charted place r v) e =
     let (h, inner, opens, here, x, checked) = (trusted n file name).charted place r v e in
     let begins : Says n h.body (items paper n (drop h.body file)) v = subst (Says n h.body (items paper n (drop h.body file))) (sym (read paper n file opens) ∙ checked) (says n h.body (items paper n (drop h.body file))) in
     go h.body (items paper n (drop h.body file)) v begins
   where
-    go : (begin : ℕ) (l : List Item) (v : Verdict) → Says n begin l v → AnsweredBy (verdict_number v) (0 ∷ 6 ∷ bad_record)
-    go begin l (verdict.Clean count) x = refl
-    go begin l (verdict.Refused (refusal.BadHeader text)) x = absurd x
-    go begin l (verdict.Refused (refusal.BadRecord at f)) x = by_part (0 ∷ 6 ∷ bad_record) refl refl refl refl refl f
-    go begin l (verdict.Refused (refusal.Unsorted at)) x = refl
+    go : (begin : ℕ) (l : List Item) (v : Result ℕ Refusal) → Says n begin l v → AnsweredBy (verdict_number v) (0 ∷ 6 ∷ bad_record)
+    go begin l (Ok count) x = refl
+    go begin l (Err (refusal.BadHeader text)) x = absurd x
+    go begin l (Err (refusal.BadRecord at f)) x = by_part (0 ∷ 6 ∷ bad_record) refl refl refl refl refl f
+    go begin l (Err (refusal.Unsorted at)) x = refl
 told_fault n file name told.Absent e = refl
 told_fault n file name told.BadName e = refl
 told_fault n file name (told.Refused why) e = refl
@@ -190,67 +181,67 @@ ask_fault_number : (kind : ℕ) (file name : List ℕ) → AnsweredBy (ask_fault
 unfolding ask_answer
 ask_fault_number kind file name = go (admission kind (length file) (length name)) refl
   where
-    go : (a : Admission) → admission kind (length file) (length name) ≡ a → AnsweredBy (ask_fault (ask_answer kind file name)) (0 ∷ 6 ∷ bad_record)
-    go (admitted.Digits n) e = rw e (told_fault n file name (ask_of paper n file name) refl)
-    go admitted.UnknownKind e = rw e
-    go admitted.TooLarge e = rw e
+    go : (a : Result ℕ NotAdmitted) → admission kind (length file) (length name) ≡ a → AnsweredBy (ask_fault (ask_answer kind file name)) (0 ∷ 6 ∷ bad_record)
+    go (Ok n) e = rw e (told_fault n file name (ask_of paper n file name) refl)
+    go (Err UnknownKind) e = rw e
+    go (Err TooLarge) e = rw e
 
-loose_number_lem : (a : LooseAnswer) → AnsweredBy (loose_number a) (0 ∷ 1 ∷ 17 ∷ 15 ∷ 16 ∷ [])
-loose_number_lem (loosely.Done (loose.Id n)) = refl
-loose_number_lem (loosely.Done (loose.Symbolic from len)) = refl
-loose_number_lem (loosely.Done loose.Unreadable) = refl
-loose_number_lem (loosely.Done loose.BadTarget) = refl
-loose_number_lem loosely.UnknownKind = refl
-loose_number_lem loosely.TooLarge = refl
+loose_number_lem : (a : Result (Result Loose LooseFault) NotAdmitted) → AnsweredBy (loose_number a) (0 ∷ 1 ∷ 17 ∷ 15 ∷ 16 ∷ [])
+loose_number_lem (Ok (Ok (loose.Id n))) = refl
+loose_number_lem (Ok (Ok (loose.Symbolic from len))) = refl
+loose_number_lem (Ok (Err Unreadable)) = refl
+loose_number_lem (Ok (Err BadTarget)) = refl
+loose_number_lem (Err UnknownKind) = refl
+loose_number_lem (Err TooLarge) = refl
 
-merge_number_lem : (a : Merged) → AnsweredBy (merge_number a) (0 ∷ 1 ∷ 17 ∷ 7 ∷ 8 ∷ 9 ∷ 10 ∷ 11 ∷ 13 ∷ 14 ∷ 12 ∷ 2 ∷ 6 ∷ bad_record)
-merge_number_lem (Done len) = refl
-merge_number_lem UnknownKind = refl
-merge_number_lem TooLarge = refl
-merge_number_lem (BadList (fault.BadEdit place edit.Malformed)) = refl
-merge_number_lem (BadList (fault.BadEdit place edit.BadName)) = refl
-merge_number_lem (BadList (fault.TooMany place)) = refl
-merge_number_lem ShortIndex = refl
-merge_number_lem (Twins place) = refl
-merge_number_lem (Refused (refusal.BadHeader k)) = refl
-merge_number_lem (Refused (refusal.BadRecord place f)) = by_part (0 ∷ 1 ∷ 17 ∷ 7 ∷ 8 ∷ 9 ∷ 10 ∷ 11 ∷ 13 ∷ 14 ∷ 12 ∷ 2 ∷ 6 ∷ bad_record) refl refl refl refl refl f
-merge_number_lem (Refused (refusal.Unsorted place)) = refl
-merge_number_lem NothingToDo = refl
-merge_number_lem NoRecord = refl
-merge_number_lem ShortOutput = refl
+merge_number_lem : (a : Result ℕ NotMerged) → AnsweredBy (merge_number a) (0 ∷ 1 ∷ 17 ∷ 7 ∷ 8 ∷ 9 ∷ 10 ∷ 11 ∷ 13 ∷ 14 ∷ 12 ∷ 2 ∷ 6 ∷ bad_record)
+merge_number_lem (Ok len) = refl
+merge_number_lem (Err not_merged.UnknownKind) = refl
+merge_number_lem (Err not_merged.TooLarge) = refl
+merge_number_lem (Err (not_merged.BadList (fault.BadEdit place edit.Malformed))) = refl
+merge_number_lem (Err (not_merged.BadList (fault.BadEdit place edit.BadName))) = refl
+merge_number_lem (Err (not_merged.BadList (fault.TooMany place))) = refl
+merge_number_lem (Err not_merged.ShortIndex) = refl
+merge_number_lem (Err (not_merged.Twins place)) = refl
+merge_number_lem (Err (not_merged.Refused (refusal.BadHeader k))) = refl
+merge_number_lem (Err (not_merged.Refused (refusal.BadRecord place f))) = by_part (0 ∷ 1 ∷ 17 ∷ 7 ∷ 8 ∷ 9 ∷ 10 ∷ 11 ∷ 13 ∷ 14 ∷ 12 ∷ 2 ∷ 6 ∷ bad_record) refl refl refl refl refl f
+merge_number_lem (Err (not_merged.Refused (refusal.Unsorted place))) = refl
+merge_number_lem (Err not_merged.NothingToDo) = refl
+merge_number_lem (Err not_merged.NoRecord) = refl
+merge_number_lem (Err not_merged.ShortOutput) = refl
 
-admission_number_lem : (a : Admission) → AnsweredBy (admission_number a) (0 ∷ 1 ∷ 17 ∷ [])
-admission_number_lem (admitted.Digits n) = refl
-admission_number_lem admitted.UnknownKind = refl
-admission_number_lem admitted.TooLarge = refl
+admission_number_lem : (a : Result ℕ NotAdmitted) → AnsweredBy (admission_number a) (0 ∷ 1 ∷ 17 ∷ [])
+admission_number_lem (Ok n) = refl
+admission_number_lem (Err UnknownKind) = refl
+admission_number_lem (Err TooLarge) = refl
 
 -- a turn speaks of records alone, never of the header
 turn_number_lem : (byte : Classes) (n : ℕ) (file : List ℕ) (place : ℕ) (last : List ℕ) → AnsweredBy (turn_number (turn_of byte n file place last)) (0 ∷ 6 ∷ bad_record)
 unfolding turn_of
 turn_number_lem byte n file place last = go (ltb place (length file)) (record_of byte n (drop place file))
   where
-    by_name : (b : Bool) (r : Record) → AnsweredBy (turn_number (if b (turn.On r) (turn.Refused (refusal.Unsorted place)))) (0 ∷ 6 ∷ bad_record)
+    by_name : (b : Bool) (r : Record) → AnsweredBy (turn_number (if b (Ok (Some r)) (Err (refusal.Unsorted place)))) (0 ∷ 6 ∷ bad_record)
     by_name true r = refl
     by_name false r = refl
 
-    go : (b : Bool) (w : Reading) → AnsweredBy (turn_number (if b (turn_by n last (drop place file) place w) turn.End)) (0 ∷ 6 ∷ bad_record)
+    go : (b : Bool) (w : Result Record Fault) → AnsweredBy (turn_number (if b (turn_by n last (drop place file) place w) (Ok None))) (0 ∷ 6 ∷ bad_record)
     go false w = refl
-    go true (Good r) = by_name (smaller last (name_in n (Good r) (drop place file))) r
-    go true (Bad f) = by_part (0 ∷ 6 ∷ bad_record) refl refl refl refl refl f
+    go true (Ok r) = by_name (smaller last (name_in n (Ok r) (drop place file))) r
+    go true (Err f) = by_part (0 ∷ 6 ∷ bad_record) refl refl refl refl refl f
 
-prepared_number_lem : (p : Prepared) → AnsweredBy (prepared_number p) (0 ∷ 17 ∷ 7 ∷ 8 ∷ 9 ∷ 10 ∷ 11 ∷ [])
-prepared_number_lem (prepared.Ready k) = refl
-prepared_number_lem (prepared.BadList (fault.BadEdit place edit.Malformed)) = refl
-prepared_number_lem (prepared.BadList (fault.BadEdit place edit.BadName)) = refl
-prepared_number_lem (prepared.BadList (fault.TooMany place)) = refl
-prepared_number_lem prepared.ShortIndex = refl
-prepared_number_lem (prepared.Twins place) = refl
-prepared_number_lem prepared.TooLarge = refl
+prepared_number_lem : (p : Result ℕ NotPrepared) → AnsweredBy (prepared_number p) (0 ∷ 17 ∷ 7 ∷ 8 ∷ 9 ∷ 10 ∷ 11 ∷ [])
+prepared_number_lem (Ok k) = refl
+prepared_number_lem (Err (not_prepared.BadList (fault.BadEdit place edit.Malformed))) = refl
+prepared_number_lem (Err (not_prepared.BadList (fault.BadEdit place edit.BadName))) = refl
+prepared_number_lem (Err (not_prepared.BadList (fault.TooMany place))) = refl
+prepared_number_lem (Err not_prepared.ShortIndex) = refl
+prepared_number_lem (Err (not_prepared.Twins place)) = refl
+prepared_number_lem (Err not_prepared.TooLarge) = refl
 
 -- ---- what a merge leaves
 
 -- only a merge that is done writes
-kept_out : (new out : List ℕ) (m : Merged) → (merge_number m ≡ 0 → ⊥) → output_by new out m ≡ out
+kept_out : (new out : List ℕ) (m : Result ℕ NotMerged) → (merge_number m ≡ 0 → ⊥) → output_by new out m ≡ out
 kept_out new out m not_done = rw (ne_eqb (merge_number m) 0 not_done)
 
 -- behind 11 no number is given that stands before it
@@ -267,15 +258,15 @@ finished_late : (olds : List Entry) (edits : List Override) (room : ℕ) → bef
 unfolding finished
 finished_late olds edits room = go (is_idle olds edits) (eqb (length (overridden olds edits)) 0) (ltb room (length (new_file olds edits))) (length (new_file olds edits))
   where
-    go : (a b c : Bool) (len : ℕ) → before_eleven (merge_number (if a NothingToDo (if b NoRecord (if c ShortOutput (Done len))))) ≡ false
+    go : (a b c : Bool) (len : ℕ) → before_eleven (merge_number (if a (Err not_merged.NothingToDo) (if b (Err not_merged.NoRecord) (if c (Err not_merged.ShortOutput) (Ok len))))) ≡ false
     go true b c len = refl
     go false true c len = refl
     go false false true len = refl
     go false false false len = refl
 
-judged_late : (olds : List Entry) (edits : List Override) (room : ℕ) (v : Verdict) → before_eleven (merge_number (judged_by olds edits room v)) ≡ false
-judged_late olds edits room (verdict.Clean count) = finished_late olds edits room
-judged_late olds edits room (verdict.Refused why) = refusal_late why
+judged_late : (olds : List Entry) (edits : List Override) (room : ℕ) (v : Result ℕ Refusal) → before_eleven (merge_number (judged_by olds edits room v)) ≡ false
+judged_late olds edits room (Ok count) = finished_late olds edits room
+judged_late olds edits room (Err why) = refusal_late why
 
 module _ (n : ℕ) (old list index : List ℕ) (room : ℕ) where
   abbrev answer : ℕ
@@ -291,9 +282,9 @@ module _ (n : ℕ) (old list index : List ℕ) (room : ℕ) where
   unfolding merge_of prepared_of index_after judged twins_of sorted
   index_is = go (over_limit (length list)) refl (edits_of paper n list) refl
     where
-      by_twin : (k : ℕ) (t : Twin) → before_eleven (merge_number (merged.listed paper n old list room (twins_by k t))) ≡ false
-      by_twin k (twin.At place) = refl
-      by_twin k twin.Nothing = judged_late (old_entries paper n old) (edits_in_order paper n old list) room (check_of paper n old)
+      by_twin : (k : ℕ) (t : Option ℕ) → before_eleven (merge_number (merged.listed paper n old list room (twins_by k t))) ≡ false
+      by_twin k (Some place) = refl
+      by_twin k None = judged_late (old_entries paper n old) (edits_in_order paper n old list) room (check_of paper n old)
 
       fault_early : (why : ListFault) → before_eleven (list_fault_number why) ≡ true
       fault_early (fault.BadEdit place edit.Malformed) = refl
@@ -320,17 +311,17 @@ module _ (kind : ℕ) (old list index out : List ℕ) where
         filled = λ e. (index_by (admission kind (length old) (length list)) refl).1 e;
       }
     where
-      out_by : (a : Admission) → admission kind (length old) (length list) ≡ a
+      out_by : (a : Result ℕ NotAdmitted) → admission kind (length old) (length list) ≡ a
           → (merge_number (merge_answer kind old list (length index) (length out)) ≡ 0 → ⊥) → output_after kind old list (length index) out ≡ out
-      out_by (admitted.Digits n) e not_done =
+      out_by (Ok n) e not_done =
           rw e (kept_out (new_file (old_entries paper n old) (edits_in_order paper n old list)) out (merge_of paper n old list (length index) (length out)) (rw e at not_done))
-      out_by admitted.UnknownKind e not_done = rw e
-      out_by admitted.TooLarge e not_done = rw e
+      out_by (Err UnknownKind) e not_done = rw e
+      out_by (Err TooLarge) e not_done = rw e
 
-      index_by : (a : Admission) → admission kind (length old) (length list) ≡ a
+      index_by : (a : Result ℕ NotAdmitted) → admission kind (length old) (length list) ≡ a
           → (before_eleven (merge_number (merge_answer kind old list (length index) (length out))) ≡ true → index_answer kind old list index ≡ index)
           × (before_eleven (merge_number (merge_answer kind old list (length index) (length out))) ≡ false → Filled kind old list index out)
-      index_by (admitted.Digits n) e = go (index_is n old list index (length out))
+      index_by (Ok n) e = go (index_is n old list index (length out))
         where
           go : Index n old list index (length out)
               → (before_eleven (merge_number (merge_answer kind old list (length index) (length out))) ≡ true → index_answer kind old list index ≡ index)
@@ -338,8 +329,8 @@ module _ (kind : ℕ) (old list index out : List ℕ) where
           go (same early is) = (λ q. rw e is, λ q. absurd (let z : ◌≡◌ {A = ℕ} 0 1 = cc (rw e at q) in omega arith))
           go (filled late places whole is) =
               (λ q. absurd (let z : ◌≡◌ {A = ℕ} 0 1 = cc (rw e at q) in omega arith), λ q. record { digits = n; kind_is = e; places = places; whole = whole; is = rw e is })
-      index_by admitted.UnknownKind e = (λ q. rw e, λ q. absurd (let z : ◌≡◌ {A = ℕ} 0 1 = cc (rw e at q) in omega arith))
-      index_by admitted.TooLarge e = (λ q. rw e, λ q. absurd (let z : ◌≡◌ {A = ℕ} 0 1 = cc (rw e at q) in omega arith))
+      index_by (Err UnknownKind) e = (λ q. rw e, λ q. absurd (let z : ◌≡◌ {A = ℕ} 0 1 = cc (rw e at q) in omega arith))
+      index_by (Err TooLarge) e = (λ q. rw e, λ q. absurd (let z : ◌≡◌ {A = ℕ} 0 1 = cc (rw e at q) in omega arith))
 
 pub demand_1 : Demand1
 demand_1 =

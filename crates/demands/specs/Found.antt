@@ -1,39 +1,30 @@
 -- Demand 2, of what callers lend and get: behind the header of a file that passes the check, a valid name is found exactly if a record has
 -- it, and a listing hands out exactly the records with the prefix.
-use Rattle.std.specs.Prelude.{◌≡◌, true, false, List, [], ◌∷◌, ◌++◌, ◌⊎◌, ℕ, ◌+◌, ◌-◌, ◌<◌, length, drop}
+use Rattle.std.specs.Prelude.{◌≡◌, true, false, List, [], ◌∷◌, ◌++◌, ◌⊎◌, ℕ, ◌+◌, ◌-◌, ◌<◌, length, drop, Some, Ok}
 use Rattle.std.proofs.Math.Option.{none}
 use Rattle.class.specs.Class.{paper}
 use Rattle.parse.specs.Choice.{if}
-use Rattle.parse.specs.declared.limit.IdKind.TheVariants.{Digits}
 use Rattle.parse.specs.Limit.{digits_of, over_limit}
 use Rattle.compare.specs.Prefix.{begins}
 use Rattle.name.specs.Name.{valid_name}
 use Rattle.header.specs.declared.Header.{Header}
-use Rattle.header.specs.declared.Opened.TheVariants as opened
-use Rattle.header.specs.declared.HeaderAnswer.TheVariants as headed
 use Rattle.header.specs.Header.{header_answer}
 use Rattle.decode.specs.declared.reference.Record.{Record}
 use Rattle.decode.specs.Entry.{entry_of}
-use Rattle.iter.specs.declared.step.StepAnswer.TheVariants as stepped
 use Rattle.iter.specs.Step.{step_of, prefix_answer}
 use Rattle.handed.specs.Handed.{Handed, good, error, Given, given, whats}
 use Rattle.handed.specs.Iteration.{said_end, iterate, read_of, out_of}
-use Rattle.checks.specs.declared.Verdict.TheVariants.{Clean}
-use Rattle.checks.specs.declared.CheckAnswer.TheVariants as checked
 use Rattle.checks.specs.Check.{check_answer}
 use Rattle.find.specs.declared.lookup.Lookup.TheVariants.{Charted, Absent}
-use Rattle.find.specs.declared.lookup.LookupAnswer.TheVariants as looked
-use Rattle.find.specs.declared.prefix_start.PrefixStart.TheVariants.{From}
-use Rattle.find.specs.declared.prefix_start.PrefixStartAnswer.TheVariants as listed
 use Rattle.find.specs.Lookup.{lookup_answer, lookup_number}
 use Rattle.find.specs.PrefixStart.{prefix_start_answer}
 
 -- a file that passes the check, and its header: what the two calls answered
 pub record Checked (kind : ℕ) (file : List ℕ) : Type 0 where
   pub count : ℕ
-  pub passes : check_answer kind file ≡ checked.Done (Clean count)
+  pub passes : check_answer kind file ≡ Ok (Ok count)
   pub header : Header
-  pub reads : header_answer file ≡ headed.Done (opened.Header header)
+  pub reads : header_answer file ≡ Ok (Ok header)
 
 -- the bytes behind the header, which the lookup and the prefix iteration are lent
 abbrev pub body_of : {kind : ℕ} {file : List ℕ} → Checked kind file → List ℕ
@@ -61,13 +52,13 @@ module _ (kind n : ℕ) (file : List ℕ) (c : Checked kind file) (name : List �
   pub record FoundIfThere : Type 0 where
     -- a record that has the name is found, and the lookup tells that record
     pub there : (g : Given) → In g (out_of (read_of paper n file)) → Has name g.what
-        → (place : ℕ) × (r : Record) × (lookup_answer kind (body_of c) name ≡ looked.Done (Charted place r)) × (found place r ≡ g)
+        → (place : ℕ) × (r : Record) × (lookup_answer kind (body_of c) name ≡ Ok (Charted place r)) × (found place r ≡ g)
     -- what is found is a record of the file, and has the name
-    pub only : (place : ℕ) (r : Record) → lookup_answer kind (body_of c) name ≡ looked.Done (Charted place r)
+    pub only : (place : ℕ) (r : Record) → lookup_answer kind (body_of c) name ≡ Ok (Charted place r)
         → In (found place r) (out_of (read_of paper n file)) × Has name (found place r).what
     -- 5 exactly if no record has it
-    pub absent : ((g : Given) → In g (out_of (read_of paper n file)) → Has name g.what → ⊥) → lookup_answer kind (body_of c) name ≡ looked.Done Absent
-    pub none : lookup_answer kind (body_of c) name ≡ looked.Done Absent → (g : Given) → In g (out_of (read_of paper n file)) → Has name g.what → ⊥
+    pub absent : ((g : Given) → In g (out_of (read_of paper n file)) → Has name g.what → ⊥) → lookup_answer kind (body_of c) name ≡ Ok Absent
+    pub none : lookup_answer kind (body_of c) name ≡ Ok Absent → (g : Given) → In g (out_of (read_of paper n file)) → Has name g.what → ⊥
     -- and no other number is given
     pub answers : (lookup_number (lookup_answer kind (body_of c) name) ≡ 0) ⊎ (lookup_number (lookup_answer kind (body_of c) name) ≡ 5)
 
@@ -86,9 +77,9 @@ module _ (kind n : ℕ) (file : List ℕ) (c : Checked kind file) (prefix : List
   pub record ListedIfWanted : Type 0 where
     -- where the prefix iteration starts
     pub place : ℕ
-    pub starts : prefix_start_answer kind (body_of c) prefix ≡ listed.Done (From place)
+    pub starts : prefix_start_answer kind (body_of c) prefix ≡ Ok (Ok place)
     -- each step from there on answers what the run is made of
-    pub steps : (at : ℕ) → prefix_answer kind prefix (body_of c) at ≡ stepped.Done (step_of paper n prefix (body_of c) at 0)
+    pub steps : (at : ℕ) → prefix_answer kind prefix (body_of c) at ≡ Ok (step_of paper n prefix (body_of c) at 0)
     -- "it lists exactly the records with the prefix, in order", and then says the end
     pub out : List Given
     pub run : (turns : ℕ) → length (body_of c) - place < turns
@@ -97,7 +88,7 @@ module _ (kind n : ℕ) (file : List ℕ) (c : Checked kind file) (prefix : List
 
 -- for both kinds, and names and prefixes within the limit
 pub record Demand2 : Type 0 where
-  pub lookup : (kind n : ℕ) → digits_of kind ≡ Digits n → (file : List ℕ) (c : Checked kind file) (name : List ℕ)
+  pub lookup : (kind n : ℕ) → digits_of kind ≡ Some n → (file : List ℕ) (c : Checked kind file) (name : List ℕ)
       → valid_name paper name ≡ true → over_limit (length name) ≡ false → FoundIfThere kind n file c name
-  pub prefixed : (kind n : ℕ) → digits_of kind ≡ Digits n → (file : List ℕ) (c : Checked kind file) (prefix : List ℕ)
+  pub prefixed : (kind n : ℕ) → digits_of kind ≡ Some n → (file : List ℕ) (c : Checked kind file) (prefix : List ℕ)
       → over_limit (length prefix) ≡ false → ListedIfWanted kind n file c prefix

@@ -1,9 +1,8 @@
 -- Demand 1, of what callers lend and get: every call is answered or refused with a number, and what a refused merge leaves of the lent memory.
 -- That no call faults, overflows or runs for ever is what the proof of each function says, and no function that is exported asks for anything first.
-use Rattle.std.specs.Prelude.{◌≡◌, Bool, true, false, List, [], ◌∷◌, ◌++◌, ℕ, length, drop}
+use Rattle.std.specs.Prelude.{◌≡◌, Bool, true, false, List, [], ◌∷◌, ◌++◌, ℕ, length, drop, Ok}
 use Rattle.class.specs.Class.{Classes, paper}
 use Rattle.block.specs.Among.{among}
-use Rattle.parse.specs.declared.limit.Admission.TheVariants as admitted
 use Rattle.parse.specs.Limit.{admission, admission_number}
 use Rattle.header.specs.Header.{header_answer, header_number}
 use Rattle.start.specs.Start.{start_answer, start_number}
@@ -68,7 +67,7 @@ module _ (kind : ℕ) (old list index out : List ℕ) where
   -- the whole list was read with ids of the kind's digits: so many edits, whose places these are
   pub record Filled : Type 0 where
     pub digits : ℕ
-    pub kind_is : admission kind (length old) (length list) ≡ admitted.Digits digits
+    pub kind_is : admission kind (length old) (length list) ≡ Ok digits
     pub places : List ℕ
     pub whole : edits_of paper digits list ≡ all places
     pub is : index_afterwards ≡ in_order list places ++ drop (length places) index

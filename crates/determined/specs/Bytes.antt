@@ -6,6 +6,7 @@ use Rattle.class.specs.contracts.is_line_end
 use Rattle.class.specs.contracts.is_hex_digit
 use Rattle.class.specs.contracts.is_cr_or_lf
 use Rattle.block.specs.contracts.among16
+use Rattle.block.specs.contracts.among
 use Rattle.word.specs.contracts.first_low
 use Rattle.word.specs.contracts.last_low
 use Rattle.word.specs.contracts.number
@@ -15,6 +16,7 @@ use Rattle.parse.specs.contracts.limit.admit
 use Rattle.parse.specs.contracts.line.newline
 use Rattle.parse.specs.contracts.line.until_line_end
 use Rattle.parse.specs.contracts.line.line_end
+use Rattle.parse.specs.contracts.scan.next_byte
 use Rattle.parse.specs.contracts.part.past_byte
 use Rattle.parse.specs.contracts.part.between
 use Rattle.id.specs.contracts.hex_hash
@@ -33,6 +35,7 @@ pub record Bytes : Type 2 where
   pub class_is_hex_digit : Determined is_hex_digit.ended (λ M 𝓤. is_hex_digit.clauses)
   pub class_is_cr_or_lf : Determined is_cr_or_lf.ended (λ M 𝓤. is_cr_or_lf.clauses)
   pub block_among16 : Determined among16.ended (λ M 𝓤. among16.clauses)
+  pub block_among : Determined among.ended (λ M 𝓤. among.clauses)
   pub word_first_low : Determined first_low.ended (λ M 𝓤. first_low.clauses)
   pub word_last_low : Determined last_low.ended (λ M 𝓤. last_low.clauses)
   pub word_number : Determined number.ended (λ M 𝓤. number.clauses)
@@ -42,6 +45,7 @@ pub record Bytes : Type 2 where
   pub parse_newline : Determined newline.ended (λ M 𝓤. newline.clauses)
   pub parse_until_line_end : Determined until_line_end.ended (λ M 𝓤. until_line_end.clauses)
   pub parse_line_end : Determined line_end.ended (λ M 𝓤. line_end.clauses)
+  pub parse_next_byte : Determined next_byte.ended (λ M 𝓤. next_byte.clauses)
   pub parse_past_byte : Determined past_byte.ended (λ M 𝓤. past_byte.clauses)
   pub parse_between : DeterminedAs between.ended (λ M 𝓤. between.clauses) (λ κs r. r.now)
   pub id_hex_hash : Determined hex_hash.ended (λ M 𝓤. hex_hash.clauses)

@@ -14,8 +14,8 @@ use Rattle.line_number.specs.contracts.line_number
 use Rattle.line_number.specs.contracts.more_lines
 use Rattle.line_number.specs.contracts.text_len
 use Rattle.line_number.specs.contracts.behind
-use Rattle.iterator.specs.contracts.new
-use Rattle.iterator.specs.contracts.next as iterator_next
+use Rattle.iterator.specs.contracts.Iter.new
+use Rattle.iterator.specs.contracts.Iter.next as iterator_next
 use Rattle.iterator.specs.contracts.first
 use Rattle.checks.specs.contracts.check
 use Rattle.checks.specs.contracts.check_with_digits

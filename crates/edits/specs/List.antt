@@ -1,24 +1,19 @@
 -- A whole edit list.
-use Rattle.std.specs.Prelude.{Bool, true, false, ◌||◌, List, [], ◌∷◌, ◌++◌, ℕ, zero, suc, ◌+◌, ltb, length, drop}
+use Rattle.std.specs.Prelude.{Bool, true, false, ◌||◌, List, [], ◌∷◌, ◌++◌, ℕ, zero, suc, ◌+◌, ltb, length, drop, Option, Some, None, Result, Ok, Err}
 use Rattle.parse.specs.Choice.{if}
 use Rattle.class.specs.Class.{Classes}
 use Rattle.parse.specs.Limit.{over_limit}
 use Rattle.places.specs.declared.name.Layout.TheVariants as layout
-use Rattle.sort.specs.declared.twin.Twin.{Twin}
-use Rattle.sort.specs.declared.twin.Twin.TheVariants as twin
 use Rattle.places.specs.Name.{standing_name}
 use Rattle.places.specs.Order.{comes_first}
 use Rattle.sort.specs.Sorted.{sorted}
 use Rattle.sort.specs.Twin.{first_twin}
-use Rattle.edit.specs.declared.EditReading.{EditReading}
-use Rattle.edit.specs.declared.EditReading.TheVariants as reading
 use Rattle.edits.specs.declared.list.ListFault.{ListFault}
 use Rattle.edits.specs.declared.list.ListFault.TheVariants.{BadEdit, TooMany}
-use Rattle.edits.specs.declared.list.Edits.{Edits}
-use Rattle.edits.specs.declared.list.Edits.TheVariants as edits
-use Rattle.edits.specs.declared.list.Prepared.{Prepared}
-use Rattle.edits.specs.declared.list.Prepared.TheVariants.{Ready, BadList, ShortIndex, Twins, TooLarge}
 use Rattle.edit.specs.Edit.{edit_of, edit_fault_number}
+use Rattle.edit.specs.declared.EditFault.{EditFault}
+use Rattle.edits.specs.declared.list.NotPrepared.{NotPrepared}
+use Rattle.edits.specs.declared.list.NotPrepared.TheVariants.{BadList, ShortIndex, TooLarge, Twins}
 
 -- ---- the edits' places, or the first fault
 
@@ -30,9 +25,9 @@ abbrev pub with_place : ℕ → Listed → Listed
 with_place place (all l) = all (place ∷ l)
 with_place place (bad why) = bad why
 
-abbrev pub listed_by : EditReading → ℕ → (ℕ → Listed) → Listed
-listed_by (reading.Good size) place next = next size
-listed_by (reading.Bad f) place next = bad (BadEdit place f)
+abbrev pub listed_by : Result ℕ EditFault → ℕ → (ℕ → Listed) → Listed
+listed_by (Ok size) place next = next size
+listed_by (Err f) place next = bad (BadEdit place f)
 
 -- "edits one after another"; "First fault in the list wins; 9 comes where that edit would begin": after so many turns no edit may begin
 module _ (byte : Classes) (n : ℕ) (list : List ℕ) where
@@ -48,9 +43,9 @@ module _ (byte : Classes) (n : ℕ) (list : List ℕ) where
   edits_of = edits_from 4096 0
 
 -- the number of edits, where k edits were counted before these; or the first fault
-abbrev pub counted : ℕ → Listed → Edits
-counted k (all l) = edits.Count (k + length l)
-counted k (bad why) = edits.Bad why
+abbrev pub counted : ℕ → Listed → Result ℕ ListFault
+counted k (all l) = Ok (k + length l)
+counted k (bad why) = Err why
 
 abbrev pub is_whole : Listed → Bool
 is_whole (all l) = true
@@ -66,19 +61,19 @@ abbrev pub in_order : List ℕ → List ℕ → List ℕ
 in_order list places = sorted (comes_first layout.Edit list) places
 
 -- "11 tells the second place of the first equal pair"
-abbrev pub twins_by : ℕ → Twin → Prepared
-twins_by k (twin.At place) = Twins place
-twins_by k twin.Nothing = Ready k
+abbrev pub twins_by : ℕ → Option ℕ → Result ℕ NotPrepared
+twins_by k (Some place) = Err (Twins place)
+twins_by k None = Ok k
 
-unfoldable pub twins_of : List ℕ → ℕ → List ℕ → Prepared
+unfoldable pub twins_of : List ℕ → ℕ → List ℕ → Result ℕ NotPrepared
 twins_of list k index = twins_by k (first_twin (standing_name layout.Edit list) index)
 
-abbrev pub prepared_by : List ℕ → ℕ → Listed → Prepared
-prepared_by list room (all l) = if (ltb room (length l)) ShortIndex (twins_of list (length l) (in_order list l))
-prepared_by list room (bad why) = BadList why
+abbrev pub prepared_by : List ℕ → ℕ → Listed → Result ℕ NotPrepared
+prepared_by list room (all l) = if (ltb room (length l)) (Err ShortIndex) (twins_of list (length l) (in_order list l))
+prepared_by list room (bad why) = Err (BadList why)
 
-unfoldable pub prepared_of : Classes → ℕ → List ℕ → ℕ → Prepared
-prepared_of byte n list room = if (over_limit (length list)) TooLarge (prepared_by list room (edits_of byte n list))
+unfoldable pub prepared_of : Classes → ℕ → List ℕ → ℕ → Result ℕ NotPrepared
+prepared_of byte n list room = if (over_limit (length list)) (Err TooLarge) (prepared_by list room (edits_of byte n list))
 
 -- "before that it is unchanged; entries behind are never touched": a list that has a fault has no places, so nothing is put in front
 unfoldable pub index_after : Classes → ℕ → List ℕ → List ℕ → List ℕ
@@ -92,9 +87,9 @@ list_fault_number (BadEdit place f) = edit_fault_number f
 list_fault_number (TooMany place) = 9
 
 -- the paper's number for each case
-abbrev pub prepared_number : Prepared → ℕ
-prepared_number (Ready k) = 0
-prepared_number (BadList why) = list_fault_number why
-prepared_number ShortIndex = 10
-prepared_number (Twins p) = 11
-prepared_number TooLarge = 17
+abbrev pub prepared_number : Result ℕ NotPrepared → ℕ
+prepared_number (Ok k) = 0
+prepared_number (Err (BadList why)) = list_fault_number why
+prepared_number (Err ShortIndex) = 10
+prepared_number (Err (Twins p)) = 11
+prepared_number (Err TooLarge) = 17

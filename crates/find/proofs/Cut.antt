@@ -7,14 +7,12 @@ use native.Mathlib.Omega.{arith}
 use lib.Dec.{ltb}
 use lib.ListN.{length}
 use borrow.Author.Tests.{ltb-true, ltb-false}
-use Rattle.compare.specs.declared.order.Order.TheVariants.{Less, Equal, Greater}
 use Rattle.class.specs.Class.{paper}
 use Rattle.compare.specs.Order.{order_of}
 use Rattle.compare.proofs.Orders.{order_equal}
 use Rattle.probe.specs.RecordStart.{record_start}
 use Rattle.iter.specs.Items.{Item, name_of}
 use Rattle.iter.specs.Stands.{Stands}
-use Rattle.search.specs.declared.Halved.{Halved}
 use Rattle.search.specs.Search.{order_at, placed, search_of}
 use Rattle.find.specs.PrefixStart.{place_of}
 use Rattle.checks.proofs.Ascending.{Apart, same, first, second}
@@ -23,6 +21,9 @@ use Rattle.find.proofs.Outcome.{Outcome, found, parted}
 use Rattle.find.proofs.RecordStarts.{end_start}
 use Rattle.find.proofs.Searched.{halves}
 use Rattle.find.proofs.Sides.{Side, side, own_side}
+use Rattle.std.specs.declared.cmp.Ordering.TheVariants.{Equal, Greater, Less}
+use Rattle.std.specs.declared.result.Result.{Result}
+use Rattle.search.specs.declared.Miss.{Miss}
 
 module _ (n : ℕ) (s wanted : List ℕ) where
   -- every record that begins before a place has a smaller name
@@ -75,6 +76,6 @@ module _ {n : ℕ} {s : List ℕ} (c : Checked n s) (wanted : List ℕ) where
   unfolding search_of
   cut = go _ (halves c wanted)
     where
-      go : (r : Halved) → Outcome (order_at paper n s wanted) (length s) r → Cut n s wanted (place_of (placed paper n s wanted r))
+      go : (r : Result ℕ Miss) → Outcome (order_at paper n s wanted) (length s) r → Cut n s wanted (place_of (placed paper n s wanted r))
       go r (found m l e) = cut_hit m l e
       go r (parted low l below above) = cut_miss low l below above

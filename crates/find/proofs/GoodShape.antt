@@ -13,9 +13,6 @@ use Rattle.parse.specs.Line.{text_len}
 use Rattle.parse.proofs.Views.{text_end}
 use Rattle.name.proofs.Laws.{valid_some}
 use Rattle.decode.specs.declared.reference.Record.{Record}
-use Rattle.decode.specs.declared.reference.Reading.{Reading}
-use Rattle.decode.specs.declared.reference.Reading.TheVariants.{Good, Bad}
-use Rattle.probe.specs.declared.shape.Shape.TheVariants.{NameLen}
 use Rattle.decode.specs.Record.{record_of}
 use Rattle.probe.specs.Shape.{shape_of}
 use Rattle.decode.proofs.Records.{name_len, after_name, Head, View, is_bad_lem, plain, peeled, view}
@@ -24,6 +21,10 @@ use Rattle.iter.specs.Items.{item_of, name_of}
 use Rattle.checks.specs.Passes.{is_good}
 use Rattle.iter.proofs.Turns.{item_name}
 use Rattle.search.specs.Search.{probed_of}
+use Rattle.std.specs.declared.option.Option.TheVariants.{Some}
+use Rattle.std.specs.declared.result.Result.{Result}
+use Rattle.std.specs.declared.result.Result.TheVariants.{Err, Ok}
+use Rattle.decode.specs.declared.reference.Fault.{Fault}
 
 module _ (n : ℕ) (t : List ℕ) where
   -- a valid name is not empty
@@ -31,7 +32,7 @@ module _ (n : ℕ) (t : List ℕ) where
   name_some h =
       omega (arith, valid_some paper (take (name_len paper n t) (drop (suc n) t)) h.name, length-take (name_len paper n t) (drop (suc n) t))
 
-  head_shape : Head paper n t → shape_of paper n t ≡ NameLen (name_len paper n t)
+  head_shape : Head paper n t → shape_of paper n t ≡ Some (name_len paper n t)
   head_shape h = go (shape_view paper n t)
     where
       len : shape_len paper n t ≡ name_len paper n t
@@ -42,17 +43,17 @@ module _ (n : ℕ) (t : List ℕ) where
           let z : text_end paper t (n + 1) ≡ suc n + name_len paper n t = omega (arith, len) in
           ap (λ (k : ℕ). drop k t) z ∙ sym (drop-drop (name_len paper n t) (suc n) t)
 
-      go : ShapeView paper n t → shape_of paper n t ≡ NameLen (name_len paper n t)
-      go (named l s e) = e ∙ ap NameLen len
+      go : ShapeView paper n t → shape_of paper n t ≡ Some (name_len paper n t)
+      go (named l s e) = e ∙ ap Some len
       go (shapeless lacks e) = absurd (lacks (record { space = h.space; some = omega (arith, len, name_some h); end = rw behind h.end }))
 
-  good_shape : (r : Record) → record_of paper n t ≡ Good r → shape_of paper n t ≡ NameLen r.name_len
+  good_shape : (r : Record) → record_of paper n t ≡ Ok r → shape_of paper n t ≡ Some r.name_len
   good_shape r e = go (view paper n t)
     where
-      by : Head paper n t → name_len paper n t ≡ r.name_len → shape_of paper n t ≡ NameLen r.name_len
-      by h z = head_shape h ∙ ap NameLen z
+      by : Head paper n t → name_len paper n t ≡ r.name_len → shape_of paper n t ≡ Some r.name_len
+      by h z = head_shape h ∙ ap Some z
 
-      go : View paper n t → shape_of paper n t ≡ NameLen r.name_len
+      go : View paper n t → shape_of paper n t ≡ Some r.name_len
       go (is_bad_lem f w q) = absurd (let z : ◌≡◌ {A = ℕ} 0 1 = cc in omega arith)
       go (plain h c q) = by h (cc)
       go (peeled h c p q) = by h (cc)
@@ -62,7 +63,7 @@ module _ (n : ℕ) (t : List ℕ) where
   unfolding probed_of
   good_probed wanted g = go (record_of paper n t) refl g
     where
-      go : (w : Reading) → record_of paper n t ≡ w → is_good w ≡ true
+      go : (w : Result Record Fault) → record_of paper n t ≡ w → is_good w ≡ true
           → probed_of paper n t wanted ≡ record { order = order_of (name_of n (item_of paper n t)) wanted; failed = false }
-      go (Bad f) e h = cc
-      go (Good r) e h = rw (good_shape r e, item_name paper n t r e)
+      go (Err f) e h = cc
+      go (Ok r) e h = rw (good_shape r e, item_name paper n t r e)

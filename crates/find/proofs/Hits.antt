@@ -14,29 +14,28 @@ use Rattle.name.proofs.Laws.{valid_some}
 use Rattle.decode.specs.declared.reference.Fault.{Fault}
 use Rattle.decode.specs.declared.reference.Fault.TheVariants.{Id, Space, LineEnd, Name, Peeled}
 use Rattle.decode.specs.declared.reference.Record.{Record}
-use Rattle.decode.specs.declared.reference.Reading.{Reading}
-use Rattle.decode.specs.declared.reference.Reading.TheVariants.{Good, Bad}
 use Rattle.decode.specs.Record.{record_of}
 use Rattle.decode.specs.Why.{Why, id, space, line_end_lem, name as name!, peeled}
 use Rattle.decode.proofs.Why.{each_has_its_reason}
 use Rattle.probe.specs.Shape.{shape_of}
 use Rattle.probe.specs.RecordStart.{record_start}
 use Rattle.probe.proofs.Shapes.{shape_len, Shaped, ShapeView, named, shapeless, shape_view}
-use Rattle.search.specs.declared.Halved.{Halved}
-use Rattle.search.specs.declared.Halved.TheVariants.{Hit, Miss}
-use Rattle.search.specs.Search.{name_by_shape, probed_of, halve, order_at, failure_at, placed, search_of}
+use Rattle.search.specs.Search.{name_by_shape, probed_of, halve, order_at, failure_at, placed, search_of, missed}
 use Rattle.search.proofs.Halving.{hit_equal}
 use Rattle.find.specs.Lookup.{lookup_of}
 use Rattle.find.specs.Hits.{HitOrMiss, number_of}
+use Rattle.std.specs.declared.result.Result.{Result}
+use Rattle.std.specs.declared.result.Result.TheVariants.{Err, Ok}
+use Rattle.search.specs.declared.Miss.{Miss}
 
 -- ---- the bytes t, of which the shape reads the wanted name
 
 module _ (n : ℕ) (t name : List ℕ) (valid : valid_name paper name ≡ true) (shows : name_by_shape n t (shape_of paper n t) ≡ name) where
   -- what reading them comes to
   data Ends : Type 0 where
-    good : (r : Record) → record_of paper n t ≡ Good r → Ends
-    bad_id_lem : record_of paper n t ≡ Bad Id → Ends
-    bad_peeled_lem : record_of paper n t ≡ Bad Peeled → Ends
+    good : (r : Record) → record_of paper n t ≡ Ok r → Ends
+    bad_id_lem : record_of paper n t ≡ Err Id → Ends
+    bad_peeled_lem : record_of paper n t ≡ Err Peeled → Ends
 
   -- a valid name is not empty, so the shape did not fail
   shaped : Shaped paper n t × (take (shape_len paper n t) (drop (n + 1) t) ≡ name)
@@ -49,34 +48,34 @@ module _ (n : ℕ) (t name : List ℕ) (valid : valid_name paper name ≡ true) 
   reads : Ends
   reads = go (record_of paper n t) refl
     where
-      by : (f : Fault) → record_of paper n t ≡ Bad f → Why paper n t f → Ends
+      by : (f : Fault) → record_of paper n t ≡ Err f → Why paper n t f → Ends
       by Id e (id lacks) = bad_id_lem e
       by Space e (space i lacks) = absurd (lacks shaped.0.space)
       by LineEnd e (line_end_lem i b lacks) = absurd (lacks shaped.0.end)
       by Name e (name! i b l lacks) = absurd (lacks (ap (valid_name paper) shaped.1 ∙ valid))
       by Peeled e (peeled i b l v c lacks) = bad_peeled_lem e
 
-      go : (w : Reading) → record_of paper n t ≡ w → Ends
-      go (Good r) e = good r e
-      go (Bad f) e = by f e ((each_has_its_reason paper n t f).only e)
+      go : (w : Result Record Fault) → record_of paper n t ≡ w → Ends
+      go (Ok r) e = good r e
+      go (Err f) e = by f e ((each_has_its_reason paper n t f).only e)
 
 -- ---- the lookup
 
 module _ (n : ℕ) (s name : List ℕ) (valid : valid_name paper name ≡ true) where
   -- where the search hits, the shape reads the name
-  shows_name : (place : ℕ) → search_of paper n s name ≡ Hit place → name_by_shape n (drop place s) (shape_of paper n (drop place s)) ≡ name
+  shows_name : (place : ℕ) → search_of paper n s name ≡ Ok place → name_by_shape n (drop place s) (shape_of paper n (drop place s)) ≡ name
   unfolding search_of probed_of
   shows_name place e = go (halve (order_at paper n s name) (failure_at paper n s name) (length s) 0 (length s) false) refl e
     where
-      go : (h : Halved) → halve (order_at paper n s name) (failure_at paper n s name) (length s) 0 (length s) false ≡ h → placed paper n s name h ≡ Hit place
+      go : (h : Result ℕ Miss) → halve (order_at paper n s name) (failure_at paper n s name) (length s) 0 (length s) false ≡ h → placed paper n s name h ≡ Ok place
           → name_by_shape n (drop place s) (shape_of paper n (drop place s)) ≡ name
-      go (Hit m) q p =
+      go (Ok m) q p =
           let z : record_start s m ≡ place = cc in
           let equal = hit_equal (order_at paper n s name) (failure_at paper n s name) (length s) 0 (length s) false (omega arith) m q in
           order_equal (name_by_shape n (drop place s) (shape_of paper n (drop place s))) name (rw z at equal)
-      go (Miss low failed) q p = absurd (let z : ◌≡◌ {A = ℕ} 0 1 = cc in omega arith)
+      go (Err why) q p = absurd (let z : ◌≡◌ {A = ℕ} 0 1 = cc in omega arith)
 
-  hit : (place : ℕ) → search_of paper n s name ≡ Hit place → (number_of n s name ≡ 0) ⊎ ((number_of n s name ≡ 41) ⊎ (number_of n s name ≡ 45))
+  hit : (place : ℕ) → search_of paper n s name ≡ Ok place → (number_of n s name ≡ 0) ⊎ ((number_of n s name ≡ 41) ⊎ (number_of n s name ≡ 45))
   unfolding lookup_of
   hit place e = go (reads n (drop place s) name valid (shows_name place e))
     where
@@ -85,7 +84,7 @@ module _ (n : ℕ) (s name : List ℕ) (valid : valid_name paper name ≡ true) 
       go (bad_id_lem q) = inr (inl (rw (valid, e, q)))
       go (bad_peeled_lem q) = inr (inr (rw (valid, e, q)))
 
-  miss : (place : ℕ) (failed : Bool) → search_of paper n s name ≡ Miss place failed → number_of n s name ≡ if failed 4 5
+  miss : (place : ℕ) (failed : Bool) → search_of paper n s name ≡ missed place failed → number_of n s name ≡ if failed 4 5
   unfolding lookup_of
   miss place true e = rw (valid, e)
   miss place false e = rw (valid, e)

@@ -5,9 +5,7 @@ use Prim.Native.Nat.{ℕ}
 use lib.ListN.{drop}
 use Rattle.class.specs.Class.{paper}
 use Rattle.header.specs.declared.Header.{Header}
-use Rattle.header.specs.declared.Opened.TheVariants as opened
 use Rattle.header.specs.Header.{header_of}
-use Rattle.checks.specs.declared.Verdict.TheVariants as verdict
 use Rattle.iter.specs.Items.{items}
 use Rattle.checks.specs.Check.{check_of}
 use Rattle.checks.specs.Passes.{Passes}
@@ -15,11 +13,12 @@ use Rattle.checks.proofs.CheckMeans.{check_means}
 use Rattle.find.specs.Present.{FoundInChecked, ListsInChecked}
 use Rattle.find.proofs.Found.{found_exactly}
 use Rattle.find.proofs.Lists.{lists_exactly}
+use Rattle.std.specs.declared.result.Result.TheVariants.{Ok}
 
-pub body_passes : (n : ℕ) (file : List ℕ) (count : ℕ) (h : Header) → check_of paper n file ≡ verdict.Clean count → header_of paper file ≡ opened.Header h
+pub body_passes : (n : ℕ) (file : List ℕ) (count : ℕ) (h : Header) → check_of paper n file ≡ Ok count → header_of paper file ≡ Ok h
     → Passes n (items paper n (drop h.body file)) count
 body_passes n file count h e o =
-    let b = (check_means paper n file (verdict.Clean count)).0 e in
+    let b = (check_means paper n file (Ok count)).0 e in
     let same : b.header ≡ h = cc b.reads in
     rw same at b.holds
 

@@ -7,7 +7,6 @@ use Prim.Native.Nat.{ℕ, ◌<◌}
 use native.Mathlib.Omega.{arith}
 use lib.Dec.{ltb, eqb}
 use borrow.Author.Tests.{le-ltb, ltb-false, ne_eqb, eq-eqb, eqb-true}
-use Rattle.compare.specs.declared.order.Order.TheVariants.{Less}
 use Rattle.parse.specs.Choice.{if}
 use Rattle.compare.specs.Order.{order_of}
 use Rattle.compare.specs.Prefix.{begins}
@@ -15,6 +14,7 @@ use Rattle.compare.proofs.Orders.{less_split, less_trans}
 use Rattle.iter.specs.Items.{Item, name_of}
 use Rattle.checks.specs.Passes.{IsAscending}
 use Rattle.find.specs.Present.{with_prefix}
+use Rattle.std.specs.declared.cmp.Ordering.TheVariants.{Less}
 
 -- ---- names
 

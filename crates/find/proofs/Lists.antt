@@ -9,25 +9,20 @@ use native.Mathlib.Omega.{arith}
 use lib.Dec.{ltb}
 use lib.ListN.{get_or, length, drop, length-append, get_or-eq_default}
 use borrow.Author.Tests.{ltb-true, ltb-false, ne_eqb}
-use Rattle.compare.specs.declared.order.Order.TheVariants.{Less}
 use Rattle.class.specs.Class.{paper, is_hex}
 use Rattle.parse.specs.Choice.{if}
 use Rattle.compare.specs.Order.{order_of}
 use Rattle.compare.specs.Prefix.{begins}
-use Rattle.decode.specs.declared.reference.Reading.{Reading}
-use Rattle.decode.specs.declared.reference.Reading.TheVariants.{Good, Bad}
 use Rattle.decode.specs.Record.{record_of}
 use Rattle.header.proofs.Headers.{no_hash}
-use Rattle.start.specs.declared.Start.TheVariants as start
 use Rattle.iter.specs.Items.{Item, items, bytes_of, name_of}
 use Rattle.checks.specs.Passes.{is_good, all_good, Passes}
 use Rattle.iter.specs.Stands.{Stands}
-use Rattle.start.specs.Start.{start_line, start_of}
+use Rattle.start.specs.Start.{start_line, start_of, starts_at}
 use Rattle.iter.proofs.Each.{each}
 use Rattle.iter.proofs.Items.{items_step, tile}
 use Rattle.handed.specs.Hands.{unless_other, up_to_other, all_of}
 use Rattle.handed.proofs.Iterations.{hands_out}
-use Rattle.find.specs.declared.prefix_start.PrefixStart.TheVariants.{From}
 use Rattle.search.specs.Search.{search_of}
 use Rattle.find.specs.PrefixStart.{place_of, prefix_start_from, prefix_start_of}
 use Rattle.find.specs.Present.{with_prefix, ListsExactly}
@@ -36,6 +31,11 @@ use Rattle.find.proofs.Cut.{Smaller, Cut, here, none, cut}
 use Rattle.find.proofs.Leading.{leading, leading_all, none_before, none_leading}
 use Rattle.find.proofs.RecordLines.{first_hex}
 use Rattle.find.proofs.Rest.{bytes_append, items_from, good_from, up_from}
+use Rattle.std.specs.declared.cmp.Ordering.TheVariants.{Less}
+use Rattle.std.specs.declared.result.Result.{Result}
+use Rattle.std.specs.declared.result.Result.TheVariants.{Err, Ok}
+use Rattle.decode.specs.declared.reference.Fault.{Fault}
+use Rattle.decode.specs.declared.reference.Record.{Record}
 
 -- ---- the start: records begin with hex digits, so the `#` rule does nothing
 
@@ -52,11 +52,11 @@ module _ (n : ℕ) (pos : 0 < n) (s : List ℕ) (good : all_good (items paper n 
           let z : ◌≡◌ {A = ℕ} 0 1 = cc in
           omega arith
 
-  starts_at : start_of paper s ≡ start.At 0 1
+  starts_here : start_of paper s ≡ starts_at 0 1
   unfolding start_of start_line
-  starts_at = rw (no_hash paper s first_byte, ne_eqb (get_or s 0 0) 35 first_byte)
+  starts_here = rw (no_hash paper s first_byte, ne_eqb (get_or s 0 0) 35 first_byte)
 
-from_place : (s : List ℕ) (place : ℕ) → start_of paper (drop place s) ≡ start.At 0 1 → prefix_start_from paper s place ≡ From place
+from_place : (s : List ℕ) (place : ℕ) → start_of paper (drop place s) ≡ starts_at 0 1 → prefix_start_from paper s place ≡ Ok place
 unfolding prefix_start_from
 from_place s place e = rw (e, add-zero place)
 
@@ -69,11 +69,11 @@ good_leads n prefix (i ∷ l) g =
     let both = (and-eq-true_iff (is_good i.what) (all_good l)).0 g in
     go i.what both.0 (begins prefix (name_of n i)) (good_leads n prefix l both.1)
   where
-    go : (w : Reading) → is_good w ≡ true → (b : Bool) → up_to_other n prefix l ≡ leading n prefix l
+    go : (w : Result Record Fault) → is_good w ≡ true → (b : Bool) → up_to_other n prefix l ≡ leading n prefix l
         → unless_other w b (i ∷ up_to_other n prefix l) ≡ if b (i ∷ leading n prefix l) []
-    go (Good r) h true ih = ap (λ (m : List Item). i ∷ m) ih
-    go (Good r) h false ih = refl
-    go (Bad f) h b ih = cc
+    go (Ok r) h true ih = ap (λ (m : List Item). i ∷ m) ih
+    go (Ok r) h false ih = refl
+    go (Err f) h b ih = cc
 
 -- from what is said by places to the items themselves
 each_smaller : {n : ℕ} {s prefix : List ℕ} (before rest : List Item) → items paper n s ≡ before ++ rest → Smaller n s prefix (length (bytes_of before))
@@ -119,7 +119,7 @@ lists_exactly n pos s count passes prefix =
     let l : Listed c prefix place = listed c prefix (cut c prefix) in
     record {
       place = place;
-      start = from_place s place (starts_at n pos (drop place s) l.rest);
+      start = from_place s place (starts_here n pos (drop place s) l.rest);
       all =
           λ turns h. (hands_out paper n prefix s place no_line).all turns h
           ∙ ap (all_of n (length s) place no_line) (good_leads n prefix (items paper n (drop place s)) l.rest ∙ l.leads);

@@ -5,25 +5,26 @@ use Prim.Native.Nat.{ℕ, zero, suc, ◌+◌, ◌≤◌, ◌<◌}
 use native.Mathlib.Omega.{arith}
 use lib.Dec.{ltb}
 use borrow.Author.Tests.{ltb-true, ltb-false}
-use Rattle.compare.specs.declared.order.Order.{Order}
-use Rattle.compare.specs.declared.order.Order.TheVariants.{Less, Equal, Greater}
-use Rattle.search.specs.declared.Halved.{Halved}
-use Rattle.search.specs.declared.Halved.TheVariants.{Hit, Miss}
-use Rattle.search.specs.Search.{middle, halve}
+use Rattle.search.specs.Search.{middle, halve, missed}
 use Rattle.search.proofs.Halving.{halve_done, halve_less, halve_greater, halve_equal}
+use Rattle.std.specs.declared.cmp.Ordering.{Ordering}
+use Rattle.std.specs.declared.cmp.Ordering.TheVariants.{Equal, Greater, Less}
+use Rattle.std.specs.declared.result.Result.{Result}
+use Rattle.std.specs.declared.result.Result.TheVariants.{Ok}
+use Rattle.search.specs.declared.Miss.{Miss}
 
 -- below a place that is too small all are, behind one that is too great all are; and no shape fails
-pub record Ascends (order : ℕ → Order) (failure : ℕ → Bool) (len : ℕ) : Type 0 where
+pub record Ascends (order : ℕ → Ordering) (failure : ℕ → Bool) (len : ℕ) : Type 0 where
   pub down : (p q : ℕ) → p ≤ q → q < len → order q ≡ Less → order p ≡ Less
   pub up : (p q : ℕ) → p ≤ q → q < len → order p ≡ Greater → order q ≡ Greater
   pub reads : (p : ℕ) → p < len → failure p ≡ false
 
-pub data Outcome (order : ℕ → Order) (len : ℕ) : Halved → Type 0 where
-  found : (m : ℕ) → m < len → order m ≡ Equal → Outcome order len (Hit m)
+pub data Outcome (order : ℕ → Ordering) (len : ℕ) : Result ℕ Miss → Type 0 where
+  found : (m : ℕ) → m < len → order m ≡ Equal → Outcome order len (Ok m)
   parted : (low : ℕ) → low ≤ len → ((p : ℕ) → p < low → order p ≡ Less) → ((p : ℕ) → low ≤ p → p < len → order p ≡ Greater)
-      → Outcome order len (Miss low false)
+      → Outcome order len (missed low false)
 
-module _ (order : ℕ → Order) (failure : ℕ → Bool) (len : ℕ) (asc : Ascends order failure len) where
+module _ (order : ℕ → Ordering) (failure : ℕ → Bool) (len : ℕ) (asc : Ascends order failure len) where
   -- between the turns
   record Window (low high : ℕ) : Type 0 where
     within : high ≤ len
@@ -42,7 +43,7 @@ module _ (order : ℕ → Order) (failure : ℕ → Bool) (len : ℕ) (asc : Asc
       m : ℕ
       m = middle low high
 
-      go : (t : Bool) → ltb low high ≡ t → (o : Order) → order m ≡ o
+      go : (t : Bool) → ltb low high ≡ t → (o : Ordering) → order m ≡ o
           → ((l k : ℕ) → k ≤ l + turns → Window l k → Outcome order len (halve order failure turns l k false))
           → Outcome order len (halve order failure (suc turns) low high false)
       go false e o s ih = closes (suc turns) low high (ltb-false low high e) w

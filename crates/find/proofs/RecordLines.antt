@@ -12,13 +12,13 @@ use Rattle.parse.specs.Run.{span}
 use Rattle.parse.specs.Line.{eol, line_len}
 use Rattle.parse.proofs.Fronts.{Eol, none, lf, crlf, eol_view, at_drop}
 use Rattle.decode.specs.declared.reference.Fault.{Fault}
-use Rattle.decode.specs.declared.reference.Reading.TheVariants.{Bad}
 use Rattle.decode.specs.Record.{record_of}
 use Rattle.decode.proofs.Records.{name_len, after_name, head_len, Head, peel_len, Peel, View, is_bad_lem, plain, peeled, view}
 use Rattle.decode.proofs.Locality.{head_line, peel_line_lem}
 use Rattle.iter.specs.Items.{size_of}
 use Rattle.checks.specs.Passes.{is_good}
 use Rattle.iter.proofs.Items.{size_good}
+use Rattle.std.specs.declared.result.Result.TheVariants.{Err}
 
 -- ---- line ends
 
@@ -56,7 +56,7 @@ module _ (n : ℕ) (t : List ℕ) where
   unfolding peel_len
   peel_feed h = feed_behind (suc n) t h.end
 
-  not_bad : {f : Fault} → is_good (record_of paper n t) ≡ true → record_of paper n t ≡ Bad f → ⊥
+  not_bad : {f : Fault} → is_good (record_of paper n t) ≡ true → record_of paper n t ≡ Err f → ⊥
   not_bad g e = let q : false ≡ true = rw e at g in let z : ◌≡◌ {A = ℕ} 0 1 = cc in omega arith
 
 -- ---- a record's lines

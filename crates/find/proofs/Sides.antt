@@ -6,7 +6,6 @@ use mathlib.Core.List.{List}
 use Prim.Native.Nat.{ℕ, ◌+◌, ◌≤◌, ◌<◌}
 use native.Mathlib.Omega.{arith}
 use lib.ListN.{length, drop}
-use Rattle.compare.specs.declared.order.Order.TheVariants.{Less, Greater}
 use Rattle.class.specs.Class.{paper}
 use Rattle.compare.specs.Order.{order_of}
 use Rattle.compare.proofs.Orders.{less_trans, less_flip, greater_flip}
@@ -22,6 +21,7 @@ use Rattle.find.proofs.GoodShape.{good_probed}
 use Rattle.find.proofs.ItemAt.{lies}
 use Rattle.find.proofs.Outcome.{Ascends}
 use Rattle.find.proofs.RecordStarts.{start_of}
+use Rattle.std.specs.declared.cmp.Ordering.TheVariants.{Greater, Less}
 
 module _ {n : ℕ} {s : List ℕ} (c : Checked n s) (wanted : List ℕ) where
   module _ {place : ℕ} {it : Item} (x : Stands paper n s place it) (p : ℕ) (from : place ≤ p) (to : p < place + length it.bytes) where

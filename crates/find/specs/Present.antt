@@ -1,22 +1,19 @@
 -- What lookup and prefix iteration mean, of the definitions (demands/specs/Found.antt says it of what callers lend and get); and how many probes a search takes.
-use Rattle.std.specs.Prelude.{◌≡◌, true, false, List, [], ◌∷◌, ◌⊎◌, ℕ, ◌-◌, ◌^◌, ◌≤◌, ◌<◌, length, drop}
+use Rattle.std.specs.Prelude.{◌≡◌, true, false, List, [], ◌∷◌, ◌⊎◌, ℕ, ◌-◌, ◌^◌, ◌≤◌, ◌<◌, length, drop, Ok}
 use Rattle.std.proofs.Math.Option.{none}
 use Rattle.parse.specs.Choice.{if}
 use Rattle.class.specs.Class.{Classes, paper}
 use Rattle.name.specs.Name.{valid_name}
 use Rattle.compare.specs.Prefix.{begins}
 use Rattle.header.specs.declared.Header.{Header}
-use Rattle.header.specs.declared.Opened.TheVariants as opened
 use Rattle.decode.specs.declared.reference.Record.{Record}
 use Rattle.header.specs.Header.{header_of}
-use Rattle.checks.specs.declared.Verdict.TheVariants as verdict
 use Rattle.iter.specs.Items.{Item, items, name_of}
 use Rattle.checks.specs.Check.{check_of}
 use Rattle.iter.specs.Stands.{Named}
 use Rattle.handed.specs.Iteration.{iterate}
 use Rattle.handed.specs.Hands.{all_of}
 use Rattle.find.specs.declared.lookup.Lookup.TheVariants as lookup
-use Rattle.find.specs.declared.prefix_start.PrefixStart.TheVariants.{From}
 use Rattle.search.specs.Search.{halve, order_at, failure_at, placed, search_of, probes_of}
 use Rattle.find.specs.Lookup.{lookup_of}
 use Rattle.find.specs.PrefixStart.{prefix_start_of}
@@ -35,7 +32,7 @@ pub record FoundExactly (n : ℕ) (s name : List ℕ) : Type 0 where
 
 -- the same said of a file: behind the header of a file that passes the check
 pub record InChecked (n : ℕ) (file : List ℕ) (P : List ℕ → Type 0) : Type 0 where
-  pub behind : (count : ℕ) (h : Header) → check_of paper n file ≡ verdict.Clean count → header_of paper file ≡ opened.Header h → P (drop h.body file)
+  pub behind : (count : ℕ) (h : Header) → check_of paper n file ≡ Ok count → header_of paper file ≡ Ok h → P (drop h.body file)
 
 abbrev pub FoundInChecked : Type 0
 FoundInChecked = (n : ℕ) → 0 < n → (file name : List ℕ) → valid_name paper name ≡ true → InChecked n file (λ body. FoundExactly n body name)
@@ -49,7 +46,7 @@ with_prefix n prefix (i ∷ l) = if (begins prefix (name_of n i)) (i ∷ with_pr
 -- a caller who steps with the prefix from the place of the start is handed those records, and then the end
 pub record ListsExactly (n : ℕ) (s prefix : List ℕ) : Type 0 where
   pub place : ℕ
-  pub start : prefix_start_of paper n s prefix ≡ From place
+  pub start : prefix_start_of paper n s prefix ≡ Ok place
   pub all : (turns : ℕ) → length s - place < turns
       → iterate paper n prefix s turns place none ≡ all_of n (length s) place none (with_prefix n prefix (items paper n s))
 

@@ -3,10 +3,11 @@ ghost use Rattle.std.specs.Prelude.{◌≡◌};
 ghost use Rattle.class.specs.Class.{paper};
 ghost use Rattle.find.specs.Lookup.{lookup_of, lookup_answer};
 
-use decode::reference::{Fault, Reading, Record};
-use parse::limit::Admission;
-use search::Halved;
+use decode::reference::{Fault, Record};
+use parse::limit::NotAdmitted;
+use search::Miss;
 
+// No Option and no Result: that no record has the name is an answer and no error, and it must not be mistaken for one.
 #[derive(Clone, Copy)]
 pub enum Lookup {
     // The record of that name, and where it starts.
@@ -21,21 +22,12 @@ pub enum Lookup {
     BadName,
 }
 
-#[derive(Clone, Copy)]
-pub enum LookupAnswer {
-    Done(Lookup),
-    UnknownKind,
-    TooLarge,
-}
-
-pub fn find(kind: u32, body: &[u8], name: &[u8]) -> LookupAnswer
+#[tactic(auto, unfolding(crate::specs::Lookup::lookup_answer))]
+pub fn find(kind: u32, body: &[u8], name: &[u8]) -> Result<Lookup, NotAdmitted>
     ensures { result ≡ lookup_answer kind body.now name.now }
 {
-    match parse::limit::admit(kind, body.len(), name.len()) {
-        Admission::Digits(n) => { LookupAnswer::Done(find_with_digits(n, body, name)) }
-        Admission::UnknownKind => LookupAnswer::UnknownKind,
-        Admission::TooLarge => LookupAnswer::TooLarge,
-    }
+    let n = parse::limit::admit(kind, body.len(), name.len())?;
+    Ok(find_with_digits(n, body, name))
 }
 
 // The same for ids of n digits.
@@ -45,18 +37,13 @@ pub fn find_with_digits(n: usize, body: &[u8], name: &[u8]) -> Lookup
     if !name::is_valid(name) {
         return Lookup::BadName;
     }
-    match search::search(n, body, name) {
-        Halved::Hit(place) => {
-            match decode::reference::reference(parse::part::between(body, place, body.len()), n) {
-                Reading::Good(found) => Lookup::Charted { place, found },
-                Reading::Bad(fault) => Lookup::BadRecord { place, fault },
-            }
-        }
-        Halved::Miss { place: _, failed } => {
-            if failed {
-                return Lookup::Unsure;
-            }
-            Lookup::Absent
-        }
+    let place = match search::search(n, body, name) {
+        Ok(place) => place,
+        Err(Miss { failed: true, .. }) => return Lookup::Unsure,
+        Err(Miss { failed: false, .. }) => return Lookup::Absent,
+    };
+    match decode::reference::reference(parse::part::between(body, place, body.len()), n) {
+        Ok(found) => Lookup::Charted { place, found },
+        Err(fault) => Lookup::BadRecord { place, fault },
     }
 }

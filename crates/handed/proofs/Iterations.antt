@@ -15,8 +15,6 @@ use Rattle.parse.proofs.Fronts.{line_len_le, line_len_some}
 use Rattle.compare.specs.Prefix.{begins}
 use Rattle.decode.specs.declared.reference.Fault.{Fault}
 use Rattle.decode.specs.declared.reference.Record.{Record}
-use Rattle.decode.specs.declared.reference.Reading.{Reading}
-use Rattle.decode.specs.declared.reference.Reading.TheVariants.{Good, Bad}
 use Rattle.decode.specs.Entry.{entry_of}
 use Rattle.decode.specs.Record.{record_of}
 use Rattle.decode.proofs.Entry.{name_inside, entry_inside}
@@ -30,6 +28,8 @@ use Rattle.start.specs.Start.{start_line, start_of}
 use Rattle.handed.specs.Handed.{good, error, given, line_or0, line_on}
 use Rattle.handed.specs.Iteration.{Iteration, said_end, onto, iterate, read, read_of}
 use Rattle.handed.specs.Hands.{unless_other, up_to_other, all_of, HandsOut, HandsOutAll, ReadsFile}
+use Rattle.std.specs.declared.result.Result.{Result}
+use Rattle.std.specs.declared.result.Result.TheVariants.{Err, Ok}
 
 -- ---- one item: what it hands out is what the step at its place tells, and the rest stands behind it
 
@@ -37,7 +37,7 @@ module _ (byte : Classes) (n : ℕ) (prefix s : List ℕ) (place : ℕ) (line : 
   abbrev t : List ℕ
   t = drop place s
 
-  first_item : (w : Reading) (k : ℕ) → record_of byte n t ≡ w → size_of byte n t ≡ k
+  first_item : (w : Result Record Fault) (k : ℕ) → record_of byte n t ≡ w → size_of byte n t ≡ k
       → items byte n t ≡ record { what = w; bytes = take k t } ∷ items byte n (drop (place + k) s)
   first_item w k e z =
       items_step byte n t (omega (arith, length-drop place s))
@@ -50,23 +50,23 @@ module _ (byte : Classes) (n : ℕ) (prefix s : List ℕ) (place : ℕ) (line : 
   abbrev behind : ℕ → Option ℕ
   behind k = line_on line (line_feeds (take k t))
 
-  after_error : (f : Fault) → record_of byte n t ≡ Bad f
+  after_error : (f : Fault) → record_of byte n t ≡ Err f
       → rest place line ≡ onto (given place (place + line_len t) (error (line_or0 line) (take (until_feed t) t))) (rest (place + line_len t) (behind (line_len t)))
   unfolding size_of
   after_error f e =
       let k = line_len t in
       let z : size_of byte n t ≡ k = rw e in
       let long : length (take k t) ≡ k = length-take-le k t (line_len_le t) in
-      ap (λ (l : List Item). all_of n (length s) place line (up_to_other n prefix l)) (first_item (Bad f) k e z)
+      ap (λ (l : List Item). all_of n (length s) place line (up_to_other n prefix l)) (first_item (Err f) k e z)
       ∙ rw (long, until_line t, take-take (until_feed t) k t (until_in t))
 
-  module _ (r : Record) (e : record_of byte n t ≡ Good r) where
+  module _ (r : Record) (e : record_of byte n t ≡ Ok r) where
     abbrev size : ℕ
     size = r.size
 
     as_items : rest place line
-        ≡ all_of n (length s) place line (up_to_other n prefix (record { what = Good r; bytes = take size t } ∷ items byte n (drop (place + size) s)))
-    as_items = ap (λ (l : List Item). all_of n (length s) place line (up_to_other n prefix l)) (first_item (Good r) size e (size_good byte n t r e))
+        ≡ all_of n (length s) place line (up_to_other n prefix (record { what = Ok r; bytes = take size t } ∷ items byte n (drop (place + size) s)))
+    as_items = ap (λ (l : List Item). all_of n (length s) place line (up_to_other n prefix l)) (first_item (Ok r) size e (size_good byte n t r e))
 
     after_other : begins prefix (take r.name_len (drop (n + 1) t)) ≡ false → rest place line ≡ record { out = []; stop = said_end (length s) line }
     after_other b = as_items ∙ rw (name_inside byte n t r e, b)
@@ -97,19 +97,19 @@ module _ (byte : Classes) (n : ℕ) (prefix s : List ℕ) where
   runs zero place line h = absurd (omega arith)
   runs (suc turns) place line h = go (ltb place (length s)) refl (record_of byte n (drop place s)) refl (runs turns)
     where
-      go : (v : Bool) → ltb place (length s) ≡ v → (w : Reading) → record_of byte n (drop place s) ≡ w
+      go : (v : Bool) → ltb place (length s) ≡ v → (w : Result Record Fault) → record_of byte n (drop place s) ≡ w
           → ((next : ℕ) (following : Option ℕ) → Runs turns next following)
           → iterate byte n prefix s (suc turns) place line ≡ all_of n (length s) place line (up_to_other n prefix (items byte n (drop place s)))
       go false v w e ih =
           let end : length s ≤ place = ltb-false place (length s) v in
           rw (step_end byte n prefix s place (line_or0 line) end, iterate, drop_of_length-le s end, items_nil byte n)
-      go true v (Bad f) e ih =
+      go true v (Err f) e ih =
           let inside : place < length s = ltb-true place (length s) v in
           let k = line_len (drop place s) in
           let long : 1 ≤ k = line_len_some (drop place s) (omega (arith, length-drop place s)) in
           rw (step_error byte n prefix s place (line_or0 line) inside f e, iterate, behind_is place k line, ih (place + k) (onward place line k) (omega arith))
           (sym (after_error byte n prefix s place line inside f e))
-      go true v (Good r) e ih = by (begins prefix (take r.name_len (drop (n + 1) (drop place s)))) refl
+      go true v (Ok r) e ih = by (begins prefix (take r.name_len (drop (n + 1) (drop place s)))) refl
         where
           inside : place < length s
           inside = ltb-true place (length s) v
@@ -131,9 +131,9 @@ no_other : (n : ℕ) (l : List Item) → up_to_other n [] l ≡ l
 no_other n [] = refl
 no_other n (i ∷ l) = go i.what (no_other n l)
   where
-    go : (w : Reading) → up_to_other n [] l ≡ l → unless_other w true (i ∷ up_to_other n [] l) ≡ i ∷ l
-    go (Good r) ih = ap (λ (m : List Item). i ∷ m) ih
-    go (Bad f) ih = ap (λ (m : List Item). i ∷ m) ih
+    go : (w : Result Record Fault) → up_to_other n [] l ≡ l → unless_other w true (i ∷ up_to_other n [] l) ≡ i ∷ l
+    go (Ok r) ih = ap (λ (m : List Item). i ∷ m) ih
+    go (Err f) ih = ap (λ (m : List Item). i ∷ m) ih
 
 pub hands_out_all : (byte : Classes) (n : ℕ) (s : List ℕ) (place : ℕ) (line : Option ℕ) → HandsOutAll byte n s place line
 hands_out_all byte n s place line =

@@ -1,6 +1,5 @@
 -- Every id, name, peeled id and text that is handed out is a part of a line that stands in the file.
 use mathlib.Core.Path.{◌≡◌, refl, sym, ap, ◌∙◌}
-use mathlib.Core.Logic.{◌⊎◌, inl, inr}
 use mathlib.Core.List.{List, [], ◌∷◌}
 use mathlib.Core.Option.{Option, some}
 use Prim.Native.Nat.{ℕ, suc, ◌+◌, ◌-◌, ◌<◌}
@@ -9,14 +8,12 @@ use native.Mathlib.Omega.{arith}
 use lib.ListN.{length, take, drop, length-drop}
 use lib.Seq.{drop-drop, take-take, length-take-le}
 use Rattle.class.specs.Class.{paper}
-use Rattle.parse.specs.declared.line.Text.TheVariants.{Ended}
-use Rattle.parse.specs.Line.{eol, line_len, text_at}
+use Rattle.parse.specs.Line.{eol, line_len, text_at, text_ends}
 use Rattle.parse.proofs.Fronts.{eol_line}
+use Rattle.parse.proofs.Lines.{text_next_same}
 use Rattle.parse.proofs.Slices.{part_of_front}
 use Rattle.parse.proofs.Views.{text_end, TextView, text, no_text, text_view}
 use Rattle.header.specs.declared.Header.{Header}
-use Rattle.header.specs.declared.Opened.{Opened}
-use Rattle.header.specs.declared.Opened.TheVariants as opened
 use Rattle.header.specs.Header.{tokens, plain_header, header_of}
 use Rattle.header.proofs.Headers.{all_noted_body, HeaderView, none, unreadable, some as readable, header_view}
 use Rattle.decode.specs.Entry.{entry_of}
@@ -34,17 +31,21 @@ use Rattle.handed.specs.Handed.{good, line_over, handed_by, handed}
 use Rattle.handed.specs.Iteration.{read_of}
 use Rattle.handed.specs.Lines.{InLine, InLines, Each, ReadFromLines}
 use Rattle.handed.proofs.Iterations.{reads_file}
+use Rattle.std.specs.declared.result.Result.{Result}
+use Rattle.std.specs.declared.option.Option.TheVariants.{Some}
+use Rattle.std.specs.declared.result.Result.TheVariants.{Err, Ok}
+use Rattle.header.specs.declared.BadHeader.{BadHeader}
 
 -- ---- a body begins where a line begins: the header ends in a line feed
 
-pub body_line : (file : List ℕ) (h : Header) → header_of paper file ≡ opened.Header h → h.body < length file → line_start file h.body ≡ h.body
+pub body_line : (file : List ℕ) (h : Header) → header_of paper file ≡ Ok h → h.body < length file → line_start file h.body ≡ h.body
 body_line file h e inside = go (header_view paper file)
   where
-    at_text : {end next : ℕ} → text_at paper file 18 ≡ Ended end next → h.body ≡ next → TextView paper file 18 → line_start file h.body ≡ h.body
+    at_text : {end next : ℕ} → text_at paper file 18 ≡ text_ends end next → h.body ≡ next → TextView paper file 18 → line_start file h.body ≡ h.body
     at_text {end} {next} t z (no_text w f) = absurd (let x : ◌≡◌ {A = ℕ} 0 1 = cc in omega arith)
     at_text {end} {next} t z (text w f) =
         let m = text_end paper file 18 in
-        let l : m + line_len (drop m file) ≡ h.body = let q : m + eol (drop m file) ≡ next = cc in omega (arith, eol_line (drop m file) w) in
+        let l : m + line_len (drop m file) ≡ h.body = let q : m + eol (drop m file) ≡ next = text_next_same (sym f ∙ t) in omega (arith, eol_line (drop m file) w) in
         rw l at (line_behind_lem file m (omega arith))
 
     go : HeaderView paper file → line_start file h.body ≡ h.body
@@ -52,12 +53,12 @@ body_line file h e inside = go (header_view paper file)
     go (unreadable x f) = absurd (let z : ◌≡◌ {A = ℕ} 0 1 = cc in omega arith)
     go (readable x m {end} {next} t f) =
         let words = tokens (take (end - 18) (drop 18 file)) in
-        let z : h.body ≡ next = ap (λ (k : Opened). body_of k) (sym e ∙ f) ∙ all_noted_body words (plain_header next) in
+        let z : h.body ≡ next = ap (λ (k : Result Header BadHeader). body_of k) (sym e ∙ f) ∙ all_noted_body words (plain_header next) in
         at_text t z (text_view paper file 18)
       where
-        body_of : Opened → ℕ
-        body_of (opened.Header k) = k.body
-        body_of (opened.Unreadable k) = 0
+        body_of : Result Header BadHeader → ℕ
+        body_of (Ok k) = k.body
+        body_of (Err k) = 0
 
 -- ---- the parts of one item
 
@@ -72,31 +73,27 @@ module _ (n : ℕ) (s : List ℕ) (place : ℕ) (inside : place < length s) (sta
   in_first x from len e = record { line = first; stands = record { place = place; inside = inside; begins = starts; is = refl }; from = from; len = len; is = e }
 
   -- a record of two lines, of k and m bytes: the peeled id stands in the second one, behind its first byte
-  two_lines : (k m name : ℕ) → k ≡ line_len t → m ≡ line_len (drop k t) → Fits paper n t (record { name_len = name; peeled = suc k; size = k + m })
-      → InLines s (good (entry_of n (take (k + m) t) (record { name_len = name; peeled = suc k; size = k + m })))
-  two_lines k m name l q f = go f.peeled
-    where
-      go : (suc k ≡ 0) ⊎ ((suc n + name < suc k) × (suc k + n < k + m))
-          → InLines s (good (entry_of n (take (k + m) t) (record { name_len = name; peeled = suc k; size = k + m })))
-      go (inl z) = absurd (omega arith)
-      go (inr (a, b)) =
-          let d : drop k t ≡ drop (place + k) s = drop-drop k place s in
-          let starts : line_start s (place + k) ≡ place + k = rw l (line_behind_lem s place (omega (arith, length-drop place s, f.inside))) in
-          let long : m ≡ line_len (drop (place + k) s) = q ∙ ap line_len d in
-          let second : List ℕ = take (line_len (drop (place + k) s)) (drop (place + k) s) in
-          let there : take n (drop (suc k) (take (k + m) t)) ≡ take n (drop 1 second) =
-          part_of_front n (suc k) (k + m) t (omega arith) ∙ ap (take n) (sym (drop-drop 1 k t ∙ ap (λ (j : ℕ). drop j t) (add-one k)))
-          ∙ ap (λ (x : List ℕ). take n (drop 1 x)) d ∙ sym (part_of_front n 1 (line_len (drop (place + k) s)) (drop (place + k) s) (omega arith)) in (
-            in_first _ 0 n (take-take n (k + m) t (omega arith) ∙ sym (take-take n (line_len t) t (omega arith))),
-            in_first _ (n + 1) name (part_of_front name (n + 1) (k + m) t (omega arith) ∙ sym (part_of_front name (n + 1) (line_len t) t (omega arith))),
-            record {
-              line = second;
-              stands = record { place = place + k; inside = omega (arith, length-drop place s, f.inside); begins = starts; is = refl };
-              from = 1;
-              len = n;
-              is = there;
-            },
-          )
+  two_lines : (k m name : ℕ) → k ≡ line_len t → m ≡ line_len (drop k t) → Fits paper n t (record { name_len = name; peeled = Some (suc k); size = k + m })
+      → InLines s (good (entry_of n (take (k + m) t) (record { name_len = name; peeled = Some (suc k); size = k + m })))
+  two_lines k m name l q f =
+      let (a, b) = f.peeled (suc k) refl in
+      let d : drop k t ≡ drop (place + k) s = drop-drop k place s in
+      let starts : line_start s (place + k) ≡ place + k = rw l (line_behind_lem s place (omega (arith, length-drop place s, f.inside))) in
+      let long : m ≡ line_len (drop (place + k) s) = q ∙ ap line_len d in
+      let second : List ℕ = take (line_len (drop (place + k) s)) (drop (place + k) s) in
+      let there : take n (drop (suc k) (take (k + m) t)) ≡ take n (drop 1 second) =
+      part_of_front n (suc k) (k + m) t (omega arith) ∙ ap (take n) (sym (drop-drop 1 k t ∙ ap (λ (j : ℕ). drop j t) (add-one k)))
+      ∙ ap (λ (x : List ℕ). take n (drop 1 x)) d ∙ sym (part_of_front n 1 (line_len (drop (place + k) s)) (drop (place + k) s) (omega arith)) in (
+        in_first _ 0 n (take-take n (k + m) t (omega arith) ∙ sym (take-take n (line_len t) t (omega arith))),
+        in_first _ (n + 1) name (part_of_front name (n + 1) (k + m) t (omega arith) ∙ sym (part_of_front name (n + 1) (line_len t) t (omega arith))),
+        record {
+          line = second;
+          stands = record { place = place + k; inside = omega (arith, length-drop place s, f.inside); begins = starts; is = refl };
+          from = 1;
+          len = n;
+          is = there;
+        },
+      )
 
   item_lines : (line : Option ℕ) → InLines s (handed_by n line (take (size_of paper n t) t) (record_of paper n t))
   unfolding size_of
@@ -125,8 +122,8 @@ pub read_from_lines : (n : ℕ) (file : List ℕ) → ReadFromLines n file
 unfolding read_of start_of
 read_from_lines n file = go (header_of paper file) refl
   where
-    go : (o : Opened) → header_of paper file ≡ o → ReadFromLines n file
-    go (opened.Unreadable k) e = rw e tt
-    go (opened.Header h) e =
+    go : (o : Result Header BadHeader) → header_of paper file ≡ o → ReadFromLines n file
+    go (Err k) e = rw e tt
+    go (Ok h) e =
         rw ((reads_file paper n file).all h e)
         (lines_from n file (items paper n (drop h.body file)) h.body (some (start_line file)) refl (body_line file h e))

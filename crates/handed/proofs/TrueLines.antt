@@ -6,8 +6,6 @@ use Prim.Native.Nat.{ℕ, zero, suc, ◌+◌, ◌-◌, ◌≤◌}
 use lib.ListN.{length, take, drop}
 use Rattle.class.specs.Class.{paper}
 use Rattle.decode.specs.Entry.{entry_of}
-use Rattle.header.specs.declared.Opened.{Opened}
-use Rattle.header.specs.declared.Opened.TheVariants as opened
 use Rattle.header.specs.Header.{header_of}
 use Rattle.line_number.specs.LineNumber.{line_feeds, line_number, at_most}
 use Rattle.start.specs.Start.{start_line, start_of}
@@ -22,6 +20,10 @@ use Rattle.handed.specs.Handed.{Given, given, good, error}
 use Rattle.handed.specs.Iteration.{iterate, read_of}
 use Rattle.handed.specs.Lines.{Each}
 use Rattle.handed.specs.TrueLines.{OnTrueLine, stepped, TrueLines, AllTrueLines}
+use Rattle.std.specs.declared.result.Result.{Result}
+use Rattle.std.specs.declared.result.Result.TheVariants.{Err, Ok}
+use Rattle.header.specs.declared.BadHeader.{BadHeader}
+use Rattle.header.specs.declared.Header.{Header}
 
 module _ (n : ℕ) (s : List ℕ) (small : length s ≤ 1073741824) where
   -- plain steps tell true line numbers
@@ -60,9 +62,9 @@ pub true_lines : AllTrueLines
 unfolding read_of start_of
 true_lines n file small = go (header_of paper file) refl
   where
-    go : (o : Opened) → header_of paper file ≡ o → TrueLines n file
-    go (opened.Unreadable k) e = record { told = rw e tt; plain = rw e }
-    go (opened.Header h) e =
+    go : (o : Result Header BadHeader) → header_of paper file ≡ o → TrueLines n file
+    go (Err k) e = record { told = rw e tt; plain = rw e }
+    go (Ok h) e =
         let same : (iterate paper n [] file (suc (length file)) h.body (some (start_line file))).out ≡ stepped n file (suc (length file)) h.body =
         ap (λ (k : ℕ). (iterate paper n [] file (suc (length file)) h.body (some k)).out) ((starts_true file).line h e)
         ∙ walks_plain n file small (suc (length file)) h.body in

@@ -1,11 +1,11 @@
 -- What a step hands out: a record by what it says, an error by its line number and its text; each with its place.
-use Rattle.std.specs.Prelude.{List, [], ◌∷◌, ℕ, ◌+◌, length, take}
+use Rattle.std.specs.Prelude.{List, [], ◌∷◌, ℕ, ◌+◌, length, take, Result, Ok, Err}
 use Rattle.std.proofs.Math.Option.{Option, none, some}
-use Rattle.decode.specs.declared.reference.Reading.{Reading}
-use Rattle.decode.specs.declared.reference.Reading.TheVariants.{Good, Bad}
 use Rattle.decode.specs.Entry.{Entry, entry_of}
 use Rattle.line_number.specs.LineNumber.{line_feeds, at_most, until_feed}
 use Rattle.iter.specs.Items.{Item}
+use Rattle.decode.specs.declared.reference.Fault.{Fault}
+use Rattle.decode.specs.declared.reference.Record.{Record}
 
 pub data Handed : Type 0 where
   good : Entry → Handed
@@ -39,9 +39,9 @@ line_over line i = line_on line (line_feeds i.bytes)
 -- ---- the items of a body, handed out one after another: the first stands at a place, on a line
 
 -- "the whole line, from that place on, without its ending LF"
-abbrev pub handed_by : ℕ → Option ℕ → List ℕ → Reading → Handed
-handed_by n line bytes (Good r) = good (entry_of n bytes r)
-handed_by n line bytes (Bad f) = error (line_or0 line) (take (until_feed bytes) bytes)
+abbrev pub handed_by : ℕ → Option ℕ → List ℕ → Result Record Fault → Handed
+handed_by n line bytes (Ok r) = good (entry_of n bytes r)
+handed_by n line bytes (Err f) = error (line_or0 line) (take (until_feed bytes) bytes)
 
 abbrev pub handed_at : ℕ → ℕ → Option ℕ → Item → Given
 handed_at n place line i = given place (place + length i.bytes) (handed_by n line i.bytes i.what)

@@ -1,23 +1,22 @@
 -- Stepping until the end hands out the items, from any place on, with any prefix; and then it says the end.
-use Rattle.std.specs.Prelude.{◌≡◌, Bool, true, false, List, [], ◌∷◌, ℕ, ◌-◌, ◌<◌, length, drop}
+use Rattle.std.specs.Prelude.{◌≡◌, Bool, true, false, List, [], ◌∷◌, ℕ, ◌-◌, ◌<◌, length, drop, Result, Ok, Err}
 use Rattle.std.proofs.Math.Option.{Option, some}
 use Rattle.class.specs.Class.{Classes}
 use Rattle.compare.specs.Prefix.{begins}
-use Rattle.decode.specs.declared.reference.Reading.{Reading}
-use Rattle.decode.specs.declared.reference.Reading.TheVariants.{Good, Bad}
 use Rattle.header.specs.declared.Header.{Header}
-use Rattle.header.specs.declared.Opened.TheVariants as opened
 use Rattle.header.specs.Header.{header_of}
 use Rattle.start.specs.Start.{start_line}
 use Rattle.iter.specs.Items.{Item, items, name_of}
 use Rattle.handed.specs.Handed.{line_over, handed}
 use Rattle.handed.specs.Iteration.{Iteration, said_end, iterate, read, read_of}
+use Rattle.decode.specs.declared.reference.Fault.{Fault}
+use Rattle.decode.specs.declared.reference.Record.{Record}
 
 -- "a good record whose name doesn't begin with it ends the iteration for good; errors are handed out whatever the prefix"
-abbrev pub unless_other : Reading → Bool → List Item → List Item
-unless_other (Good r) true l = l
-unless_other (Good r) false l = []
-unless_other (Bad f) wanted l = l
+abbrev pub unless_other : Result Record Fault → Bool → List Item → List Item
+unless_other (Ok r) true l = l
+unless_other (Ok r) false l = []
+unless_other (Err f) wanted l = l
 
 abbrev pub up_to_other : ℕ → List ℕ → List Item → List Item
 up_to_other n prefix [] = []
@@ -44,5 +43,5 @@ pub record HandsOutAll (byte : Classes) (n : ℕ) (s : List ℕ) (place : ℕ) (
 
 -- a file whose header can be read: all items behind the header
 pub record ReadsFile (byte : Classes) (n : ℕ) (file : List ℕ) : Type 0 where
-  pub all : (h : Header) → header_of byte file ≡ opened.Header h
+  pub all : (h : Header) → header_of byte file ≡ Ok h
       → read_of byte n file ≡ read (all_of n (length file) h.body (some (start_line file)) (items byte n (drop h.body file)))

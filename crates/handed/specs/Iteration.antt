@@ -1,15 +1,15 @@
 -- What a caller who steps until the end is handed. Nothing is used here but what the start and the steps answer.
-use Rattle.std.specs.Prelude.{List, [], ◌∷◌, ℕ, zero, suc, ◌-◌, length, take, drop}
+use Rattle.std.specs.Prelude.{List, [], ◌∷◌, ℕ, zero, suc, ◌-◌, length, take, drop, Result, Ok, Err}
 use Rattle.std.proofs.Math.Option.{Option, some}
 use Rattle.class.specs.Class.{Classes}
 use Rattle.decode.specs.Entry.{entry_of}
-use Rattle.start.specs.declared.Start.{Start}
-use Rattle.start.specs.declared.Start.TheVariants.{At, BadHeader}
 use Rattle.start.specs.Start.{start_of}
 use Rattle.iter.specs.declared.step.Step.TheVariants.{End, Good, Error}
 use Rattle.iter.specs.Step.{step_of}
 use Rattle.line_number.specs.LineNumber.{line_feeds}
 use Rattle.handed.specs.Handed.{good, error, Given, given, line_or0, line_on}
+use Rattle.header.specs.declared.BadHeader.{BadHeader}
+use Rattle.start.specs.declared.Start.{Start}
 
 -- how it came to its end: a step said so, with the next place that it gave, and the line that the walk was on; or the caller made no further step
 pub data Stop : Type 0 where
@@ -43,9 +43,9 @@ pub data Read : Type 0 where
   refused : (text : ℕ) → Read
   read : Iteration → Read
 
-abbrev pub read_from : Classes → ℕ → List ℕ → Start → Read
-read_from byte n file (At place line) = read (iterate byte n [] file (suc (length file)) place (some line))
-read_from byte n file (BadHeader text) = refused text
+abbrev pub read_from : Classes → ℕ → List ℕ → Result Start BadHeader → Read
+read_from byte n file (Ok start) = read (iterate byte n [] file (suc (length file)) start.place (some start.line))
+read_from byte n file (Err bad) = refused bad.text
 
 unfoldable pub read_of : Classes → ℕ → List ℕ → Read
 read_of byte n file = read_from byte n file (start_of byte file)

@@ -1,17 +1,17 @@
 -- What the line numbers are worth: to a reader who walks through a whole file every one that is told is the true one, and so the walk tells what the plain step
 -- tells at each of its places.
-use Rattle.std.specs.Prelude.{◌≡◌, List, [], ◌∷◌, ℕ, zero, suc, ◌≤◌, length, take, drop}
+use Rattle.std.specs.Prelude.{◌≡◌, List, [], ◌∷◌, ℕ, zero, suc, ◌≤◌, length, take, drop, Result, Ok, Err}
 use Rattle.class.specs.Class.{paper}
 use Rattle.decode.specs.Entry.{entry_of}
 use Rattle.line_number.specs.LineNumber.{line_number}
-use Rattle.start.specs.declared.Start.{Start}
-use Rattle.start.specs.declared.Start.TheVariants.{At, BadHeader}
 use Rattle.start.specs.Start.{start_of}
 use Rattle.iter.specs.declared.step.Step.TheVariants.{End, Good, Error}
 use Rattle.iter.specs.Step.{step_of}
 use Rattle.handed.specs.Handed.{Handed, good, error, Given, given}
 use Rattle.handed.specs.Iteration.{read_of, out_of}
 use Rattle.handed.specs.Lines.{Each}
+use Rattle.header.specs.declared.BadHeader.{BadHeader}
+use Rattle.start.specs.declared.Start.{Start}
 
 -- an error that was handed out at a place of s tells "the true line number (one more than the line feeds before it)"
 abbrev pub OnTrueLine : List ℕ → ℕ → Handed → Type 0
@@ -30,9 +30,9 @@ module _ (n : ℕ) (s : List ℕ) where
         | Error f line text next ↦ given place next (error line (take text (drop place s))) ∷ stepped turns next
       ]
 
-abbrev pub stepped_from : ℕ → List ℕ → Start → List Given
-stepped_from n file (At place line) = stepped n file (suc (length file)) place
-stepped_from n file (BadHeader text) = []
+abbrev pub stepped_from : ℕ → List ℕ → Result Start BadHeader → List Given
+stepped_from n file (Ok start) = stepped n file (suc (length file)) start.place
+stepped_from n file (Err bad) = []
 
 -- of any file within the size limit
 pub record TrueLines (n : ℕ) (file : List ℕ) : Type 0 where

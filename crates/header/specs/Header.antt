@@ -1,5 +1,5 @@
 -- The header of a file.
-use Rattle.std.specs.Prelude.{true, false, not, ◌&&◌, List, [], ◌∷◌, ℕ, ◌-◌, ltb, eqb, get_or, length, take, drop}
+use Rattle.std.specs.Prelude.{true, false, not, ◌&&◌, List, [], ◌∷◌, ℕ, ◌-◌, ltb, eqb, get_or, length, take, drop, Result, Ok, Err}
 use Rattle.parse.specs.Choice.{if}
 use Rattle.class.specs.Class.{Classes, paper}
 use Rattle.parse.specs.Limit.{over_limit}
@@ -9,10 +9,8 @@ use Rattle.parse.specs.Run.{span}
 use Rattle.parse.specs.Split.{split}
 use Rattle.header.specs.declared.Peeled.TheVariants.{Unspecified, Partial, Fully}
 use Rattle.header.specs.declared.Header.{Header}
-use Rattle.header.specs.declared.Opened as opened
-use Rattle.header.specs.declared.Opened.{Opened}
-use Rattle.header.specs.declared.HeaderAnswer as answer
-use Rattle.header.specs.declared.HeaderAnswer.{HeaderAnswer}
+use Rattle.header.specs.declared.BadHeader.{BadHeader}
+use Rattle.parse.specs.declared.limit.TooLarge.{TooLarge}
 
 -- "# pack-refs with: "
 abbrev pub mark : List ℕ
@@ -59,31 +57,35 @@ first_line s =
     let k = span (λ b. not (eqb b 10)) s in
     if (ltb k (length s) && eqb (get_or s (k - 1) 0) 13) (k - 1) k
 
+-- a first line that is no header: the length of its text
+abbrev pub unreadable : ℕ → Result Header BadHeader
+unreadable text = Err (record { text = text })
+
 -- "Header: `# pack-refs with: ` and text to a line end." "Without `#` first there is no header": # is 35
-unfoldable pub header_of : Classes → List ℕ → Opened
+unfoldable pub header_of : Classes → List ℕ → Result Header BadHeader
 header_of byte s =
     if (eqb (get_or s 0 0) 35)
     (if (begins mark s)
     (ended (text_at byte s 18)
-    (λ end next. opened.TheVariants.Header (all_noted (tokens (take (end - 18) (drop 18 s))) (plain_header next)))
-    (opened.TheVariants.Unreadable (first_line s)))
-    (opened.TheVariants.Unreadable (first_line s)))
-    (opened.TheVariants.Header (plain_header 0))
+    (λ end next. Ok (all_noted (tokens (take (end - 18) (drop 18 s))) (plain_header next)))
+    (unreadable (first_line s)))
+    (unreadable (first_line s)))
+    (Ok (plain_header 0))
 
 -- what comes of it: f of the header, or g of the length of the text that can't be read
-abbrev pub headed {ℓ} : {A : Type ℓ} → Opened → (Header → A) → (ℕ → A) → A
-headed (opened.TheVariants.Header h) f g = f h
-headed (opened.TheVariants.Unreadable text) f g = g text
+abbrev pub headed {ℓ} : {A : Type ℓ} → Result Header BadHeader → (Header → A) → (ℕ → A) → A
+headed (Ok h) f g = f h
+headed (Err bad) f g = g bad.text
 
 -- the answer to any bytes, with the size limit first
-unfoldable pub header_answer : List ℕ → HeaderAnswer
-header_answer s = if (over_limit (length s)) answer.TheVariants.TooLarge (answer.TheVariants.Done (header_of paper s))
+unfoldable pub header_answer : List ℕ → Result (Result Header BadHeader) TooLarge
+header_answer s = if (over_limit (length s)) (Err (record {})) (Ok (header_of paper s))
 
 -- the paper's number for each case
-abbrev pub opened_number : Opened → ℕ
-opened_number (opened.TheVariants.Header h) = 0
-opened_number (opened.TheVariants.Unreadable k) = 2
+abbrev pub opened_number : Result Header BadHeader → ℕ
+opened_number (Ok h) = 0
+opened_number (Err bad) = 2
 
-abbrev pub header_number : HeaderAnswer → ℕ
-header_number (answer.TheVariants.Done o) = opened_number o
-header_number answer.TheVariants.TooLarge = 17
+abbrev pub header_number : Result (Result Header BadHeader) TooLarge → ℕ
+header_number (Ok o) = opened_number o
+header_number (Err large) = 17

@@ -1,45 +1,62 @@
--- Whether a run of bytes is long enough, asked in parts: of the first bytes, and of those behind them. For any test.
+-- Whether all bytes of a list pass a test, asked in parts. For any test.
 use mathlib.Core.Path.{◌≡◌, refl, sym, ap, ◌∙◌}
-use mathlib.Core.Bool.{Bool, true, false, ◌&&◌}
-use mathlib.Core.List.{List, [], ◌∷◌}
+use mathlib.Core.Bool.{Bool, true, false, ◌&&◌, and-true}
+use mathlib.Core.List.{List, [], ◌∷◌, ◌++◌}
 use Prim.Native.Nat.{ℕ, zero, suc, ◌+◌, ◌-◌, ◌≤◌, ◌<◌}
-use native.Mathlib.Nat.{zero-add, suc-add, add-sub_of_le}
+use native.Mathlib.Numerals.{add-one}
+use native.Mathlib.Omega.{arith}
 use lib.Dec.{leb, leb-zero, leb-suc-zero, leb-suc-suc}
-use lib.ListN.{length, get_or, drop}
-use lib.Seq.{drop-cons, drop-drop}
+use lib.ListN.{length, get_or, take, drop, take-append-drop, length-drop, drop_of_length-le}
+use lib.Seq.{drop-cons}
 use Rattle.parse.specs.Choice.{if}
 use Rattle.parse.specs.Run.{span}
 
 module _ (p : ℕ → Bool) where
-  parts : (m n : ℕ) (l : List ℕ) → leb (m + n) (span p l) ≡ (leb m (span p l) && leb n (span p (drop m l)))
-  parts zero n l = rw (zero-add n, leb-zero (span p l))
-  parts (suc m) n [] = rw (suc-add m n, leb-suc-zero (m + n), leb-suc-zero m)
-  parts (suc m) n (b ∷ l) = rw (suc-add m n) (go (p b) (parts m n l))
+  abbrev pub all : List ℕ → Bool
+  all s = leb (length s) (span p s)
+
+  all_first : (b : ℕ) (s : List ℕ) → all (b ∷ s) ≡ (p b && all s)
+  all_first b s = go (p b)
     where
-      go : (t : Bool) → leb (m + n) (span p l) ≡ (leb m (span p l) && leb n (span p (drop m l)))
-          → leb (suc (m + n)) (if t (suc (span p l)) 0) ≡ (leb (suc m) (if t (suc (span p l)) 0) && leb n (span p (drop m l)))
-      go true e = rw (leb-suc-suc (m + n) (span p l), leb-suc-suc m (span p l)) e
-      go false e = rw (leb-suc-zero (m + n), leb-suc-zero m)
+      go : (t : Bool) → leb (suc (length s)) (if t (suc (span p s)) 0) ≡ (t && all s)
+      go true = leb-suc-suc (length s) (span p s)
+      go false = leb-suc-zero (length s)
 
-  module _ (s : List ℕ) (at : ℕ) where
-    -- m + n bytes from a place on pass the test exactly if m do, and n behind them
-    pub in_parts : (m n : ℕ) → leb (m + n) (span p (drop at s)) ≡ (leb m (span p (drop at s)) && leb n (span p (drop (at + m) s)))
-    in_parts m n = parts m n (drop at s) ∙ rw (drop-drop m at s)
+  all_append : (s t : List ℕ) → all (s ++ t) ≡ (all s && all t)
+  all_append [] t = refl
+  all_append (b ∷ s) t =
+      all_first b (s ++ t) ∙ ap (λ x. p b && x) (all_append s t) ∙ go (p b) ∙ ap (λ x. x && all t) (sym (all_first b s))
+    where
+      go : (c : Bool) → (c && (all s && all t)) ≡ ((c && all s) && all t)
+      go true = refl
+      go false = refl
 
-    pub one : at < length s → leb 1 (span p (drop at s)) ≡ p (get_or s at 0)
-    one h = rw (drop-cons s at 0 h) (go (p (get_or s at 0)) (span p (drop (suc at) s)))
+  -- the first n bytes and those behind them
+  pub in_parts : (n : ℕ) (s : List ℕ) → all s ≡ (all (take n s) && all (drop n s))
+  in_parts n s = ap all (sym (take-append-drop n s)) ∙ all_append (take n s) (drop n s)
+
+  in_front : (n : ℕ) (s : List ℕ) → n ≤ length s → leb n (span p s) ≡ all (take n s)
+  in_front zero s h = leb-zero (span p s)
+  in_front (suc n) [] h = absurd (omega arith)
+  in_front (suc n) (b ∷ s) h = rw (all_first b (take n s)) (go (p b) (in_front n s (omega arith)))
+    where
+      go : (t : Bool) → leb n (span p s) ≡ all (take n s) → leb (suc n) (if t (suc (span p s)) 0) ≡ (t && all (take n s))
+      go true e = leb-suc-suc n (span p s) ∙ e
+      go false e = leb-suc-zero n
+
+  pub in_slice : (s : List ℕ) (at n : ℕ) → at + n ≤ length s → leb n (span p (drop at s)) ≡ all (take (at + n - at) (drop at s))
+  in_slice s at n h =
+      let size : n ≡ at + n - at = omega arith in
+      in_front n (drop at s) (omega (arith, length-drop at s)) ∙ ap (λ k. all (take k (drop at s))) size
+
+  -- what was met so far, and the bytes that are left
+  module _ (met : Bool) (s : List ℕ) (i : ℕ) where
+    pub one_more : i < length s → ((met && p (get_or s i 0)) && all (drop (i + 1) s)) ≡ (met && all (drop i s))
+    one_more h = rw (drop-cons s i 0 h, add-one i, all_first (get_or s i 0) (drop (suc i) s)) (go met)
       where
-        go : (t : Bool) (n : ℕ) → leb 1 (if t (suc n) 0) ≡ t
-        go true n = leb-suc-suc 0 n ∙ leb-zero n
-        go false n = refl
+        go : (t : Bool) → ((t && p (get_or s i 0)) && all (drop (suc i) s)) ≡ (t && (p (get_or s i 0) && all (drop (suc i) s)))
+        go true = refl
+        go false = refl
 
-    module _ (m n : ℕ) (h : m ≤ n) where
-      whole : leb n (span p (drop at s)) ≡ (leb m (span p (drop at s)) && leb (n - m) (span p (drop (at + m) s)))
-      whole = ap (λ k. leb k (span p (drop at s))) (sym (add-sub_of_le h)) ∙ in_parts m (n - m)
-
-      -- n pass the test: not where the first m do not, and where they do, if those behind them do
-      pub block_fails : leb m (span p (drop at s)) ≡ false → leb n (span p (drop at s)) ≡ false
-      block_fails e = whole ∙ rw e
-
-      pub block_passes : leb m (span p (drop at s)) ≡ true → leb n (span p (drop at s)) ≡ leb (n - m) (span p (drop (at + m) s))
-      block_passes e = whole ∙ rw e
+    pub none_left : length s ≤ i → met ≡ (met && all (drop i s))
+    none_left h = rw (drop_of_length-le s h, leb-zero 0, and-true)

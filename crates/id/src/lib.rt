@@ -1,66 +1,56 @@
 // Ids: n hex digits, kept as they stand.
 #![tactic(auto)]
 
-ghost use Rattle.std.specs.Prelude.{◌≡◌, ◌+◌, ◌≤◌, leb, length, drop};
+ghost use Rattle.std.specs.Prelude.{◌≡◌, leb, length};
 ghost use Rattle.class.specs.Class.{paper, is_hex};
 ghost use Rattle.parse.specs.Run.{span};
 ghost use Rattle.id.specs.Id.{id_at};
 
-use parse::part::Past;
-
 // The place behind the n hex digits that stand at a place.
-pub fn hex_hash(s: &[u8], at: usize, n: usize) -> Past
+pub fn hex_hash(s: &[u8], at: usize, n: usize) -> Option<usize>
     ensures { result ≡ id_at paper n s.now at }
 {
     if s.len() < at {
-        if n == 0 {
-            return Past::At(at);
-        }
-        return Past::Unread;
+        // No digits stand there, which is enough where none is asked for.
+        return if n == 0 { Some(at) } else { None };
     }
     if s.len() - at < n {
-        return Past::Unread;
+        return None;
     }
-    if all_hex(s, at, n) {
-        return Past::At(at + n);
+    if all_hex(&s[at..at + n]) {
+        Some(at + n)
+    } else {
+        None
     }
-    Past::Unread
 }
 
-// Whether n bytes from a place on are hex digits: sixteen a step, then eight, then the rest.
-fn all_hex(s: &[u8], at: usize, n: usize) -> bool
-    requires { at + n ≤ length s.now }
-    ensures { result ≡ leb n (span is_hex (drop at s.now)) }
+// Sixteen a step, then eight, then the rest: a block is only vector code where its length is a number.
+fn all_hex(digits: &[u8]) -> bool
+    ensures { result ≡ leb (length digits.now) (span is_hex digits.now) }
 {
-    let mut i = at;
-    let mut left = n;
-    while 16 <= left {
-        if !block(s, i, 16) {
+    let mut left = digits;
+    while 16 <= left.len() {
+        if !block(&left[..16]) {
             return false;
         }
-        i += 16;
-        left -= 16;
+        left = &left[16..];
     }
-    if 8 <= left {
-        if !block(s, i, 8) {
+    if 8 <= left.len() {
+        if !block(&left[..8]) {
             return false;
         }
-        i += 8;
-        left -= 8;
+        left = &left[8..];
     }
-    block(s, i, left)
+    block(left)
 }
 
-// No way out before the last byte, so that for sixteen and for eight it compiles to vector code.
-fn block(s: &[u8], at: usize, n: usize) -> bool
-    requires { at + n ≤ length s.now }
-    ensures { result ≡ leb n (span is_hex (drop at s.now)) }
+// No way out before the last byte, as the library's `all` has one: so that for sixteen and for eight it compiles to vector code.
+fn block(digits: &[u8]) -> bool
+    ensures { result ≡ leb (length digits.now) (span is_hex digits.now) }
 {
     let mut all = true;
-    let mut k = 0;
-    while k < n {
-        all = all & class::is_hex_digit(s[at + k]);
-        k += 1;
+    for &b in digits {
+        all &= class::is_hex_digit(b);
     }
     all
 }

@@ -14,7 +14,6 @@ use Rattle.class.specs.Class.{Classes, paper}
 use Rattle.parse.specs.Line.{line_len}
 use Rattle.parse.proofs.Fronts.{line_len_some}
 use Rattle.decode.specs.declared.reference.Fault.{Fault}
-use Rattle.decode.specs.declared.reference.Reading.TheVariants.{Bad}
 use Rattle.decode.specs.Record.{record_of}
 use Rattle.probe.specs.RecordStart.{line_start}
 use Rattle.probe.proofs.Starts.{line_stop}
@@ -22,6 +21,7 @@ use Rattle.iter.specs.Items.{Item, size_of, item_of, items, bytes_of}
 use Rattle.iter.specs.Stands.{Stands, Lines, one, two, EachItem, Tiled}
 use Rattle.iter.proofs.Items.{items_step, some_item, size_le, size_some, tile}
 use Rattle.iter.proofs.Covers.{Covered, line, pair, covered}
+use Rattle.std.specs.declared.result.Result.TheVariants.{Err}
 
 -- ---- a line with bytes behind it ends with a line feed, so that a line begins behind it
 
@@ -68,7 +68,7 @@ module _ (n : ℕ) where
       go (line e) = one (rw e)
       go (pair c e) = two (rw e)
 
-  error_line : (t : List ℕ) (f : Fault) → record_of paper n t ≡ Bad f → take (size_of paper n t) t ≡ take (line_len t) t
+  error_line : (t : List ℕ) (f : Fault) → record_of paper n t ≡ Err f → take (size_of paper n t) t ≡ take (line_len t) t
   unfolding size_of
   error_line t f e = rw e
 

@@ -8,14 +8,15 @@ use Rattle.class.specs.Class.{Classes}
 use Rattle.parse.specs.Line.{line_len}
 use Rattle.parse.proofs.Fronts.{line_len_le, line_len_some}
 use Rattle.decode.specs.declared.reference.Record.{Record}
-use Rattle.decode.specs.declared.reference.Reading.{Reading}
-use Rattle.decode.specs.declared.reference.Reading.TheVariants.{Good, Bad}
 use Rattle.decode.specs.Record.{record_of, decoded}
 use Rattle.decode.proofs.Records.{fits}
 use Rattle.iter.specs.Items.{Item, size_of, item_of, items_behind, items, bytes_of}
+use Rattle.std.specs.declared.result.Result.{Result}
+use Rattle.std.specs.declared.result.Result.TheVariants.{Err, Ok}
+use Rattle.decode.specs.declared.reference.Fault.{Fault}
 
 module _ (byte : Classes) (n : ℕ) where
-  pub size_good : (s : List ℕ) (r : Record) → record_of byte n s ≡ Good r → size_of byte n s ≡ r.size
+  pub size_good : (s : List ℕ) (r : Record) → record_of byte n s ≡ Ok r → size_of byte n s ≡ r.size
   unfolding size_of
   size_good s r e = rw e
 
@@ -25,17 +26,17 @@ module _ (byte : Classes) (n : ℕ) where
   unfolding size_of
   size_le s = go (record_of byte n s) refl
     where
-      go : (w : Reading) → record_of byte n s ≡ w → decoded w (λ r. r.size) (λ f. line_len s) ≤ length s
-      go (Good r) e = (fits byte n s r e).inside
-      go (Bad f) e = line_len_le s
+      go : (w : Result Record Fault) → record_of byte n s ≡ w → decoded w (λ r. r.size) (λ f. line_len s) ≤ length s
+      go (Ok r) e = (fits byte n s r e).inside
+      go (Err f) e = line_len_le s
 
   pub size_some : (s : List ℕ) → 0 < length s → 1 ≤ size_of byte n s
   unfolding size_of
   size_some s h = go (record_of byte n s) refl
     where
-      go : (w : Reading) → record_of byte n s ≡ w → 1 ≤ decoded w (λ r. r.size) (λ f. line_len s)
-      go (Good r) e = omega (arith, (fits byte n s r e).holds)
-      go (Bad f) e = line_len_some s h
+      go : (w : Result Record Fault) → record_of byte n s ≡ w → 1 ≤ decoded w (λ r. r.size) (λ f. line_len s)
+      go (Ok r) e = omega (arith, (fits byte n s r e).holds)
+      go (Err f) e = line_len_some s h
 
   -- ---- unfolding
 

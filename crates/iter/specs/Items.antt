@@ -1,14 +1,15 @@
 -- The items of a body: each a good record, or an error that covers a line.
-use Rattle.std.specs.Prelude.{List, [], ◌∷◌, ◌++◌, ℕ, zero, suc, pred, take}
+use Rattle.std.specs.Prelude.{List, [], ◌∷◌, ◌++◌, ℕ, zero, suc, pred, take, Result}
 use Rattle.class.specs.Class.{Classes}
 use Rattle.parse.specs.Line.{line_len}
-use Rattle.decode.specs.declared.reference.Reading.{Reading}
 use Rattle.decode.specs.Entry.{entry_of}
 use Rattle.decode.specs.Record.{record_of, decoded}
+use Rattle.decode.specs.declared.reference.Fault.{Fault}
+use Rattle.decode.specs.declared.reference.Record.{Record}
 
 -- what was read, and the bytes that it covers. An item does not hold its place, so the same bytes are the same item wherever they stand
 pub record Item : Type 0 where
-  pub what : Reading
+  pub what : Result Record Fault
   pub bytes : List ℕ
 
 module _ (byte : Classes) (n : ℕ) where
@@ -37,7 +38,7 @@ bytes_of [] = []
 bytes_of (i ∷ l) = i.bytes ++ bytes_of l
 
 -- the name of an item with ids of n digits; an error has none
-abbrev pub name_in : ℕ → Reading → List ℕ → List ℕ
+abbrev pub name_in : ℕ → Result Record Fault → List ℕ → List ℕ
 name_in n what s = decoded what (λ r. (entry_of n s r).name) (λ f. [])
 
 abbrev pub name_of : ℕ → Item → List ℕ

@@ -1,11 +1,9 @@
 -- An item at its place in a body, and what each item is.
-use Rattle.std.specs.Prelude.{◌≡◌, List, ◌∷◌, ◌++◌, ℕ, ◌+◌, ◌≤◌, ◌<◌, length, take, drop}
+use Rattle.std.specs.Prelude.{◌≡◌, List, ◌∷◌, ◌++◌, ℕ, ◌+◌, ◌≤◌, ◌<◌, length, take, drop, Ok, Err}
 use Rattle.class.specs.Class.{Classes, paper}
 use Rattle.parse.specs.Line.{line_len}
 use Rattle.decode.specs.declared.reference.Fault.{Fault}
 use Rattle.decode.specs.declared.reference.Record.{Record}
-use Rattle.decode.specs.declared.reference.Reading.TheVariants as reading
-use Rattle.decode.specs.declared.reference.Reading.TheVariants.{Bad}
 use Rattle.probe.specs.RecordStart.{line_start}
 use Rattle.iter.specs.Items.{Item, item_of, items, name_of, bytes_of}
 
@@ -24,7 +22,7 @@ pub record Stands (byte : Classes) (n : ℕ) (s : List ℕ) (place : ℕ) (it : 
 pub record Named (n : ℕ) (s name : List ℕ) (place : ℕ) (r : Record) : Type 0 where
   pub it : Item
   pub stands : Stands paper n s place it
-  pub good : it.what ≡ reading.Good r
+  pub good : it.what ≡ Ok r
   pub name_is : name_of n it ≡ name
 
 -- the bytes b are the first line of t, or its first two
@@ -40,4 +38,4 @@ pub record EachItem (n : ℕ) (s : List ℕ) (place : ℕ) (it : Item) : Type 0 
   pub inside : place + length it.bytes ≤ length s
   pub start : line_start s place ≡ place
   pub lines : Lines (drop place s) it.bytes
-  pub error : (f : Fault) → it.what ≡ Bad f → it.bytes ≡ take (line_len (drop place s)) (drop place s)
+  pub error : (f : Fault) → it.what ≡ Err f → it.bytes ≡ take (line_len (drop place s)) (drop place s)

@@ -4,9 +4,10 @@ ghost use Rattle.std.specs.Prelude.{◌≡◌, []};
 ghost use Rattle.class.specs.Class.{paper};
 ghost use Rattle.iter.specs.Step.{step_of, step_answer, plain_answer, prefix_answer};
 
-use decode::reference::{Fault, Reading, Record};
-use parse::limit::Admission;
+use decode::reference::{Fault, Record};
+use parse::limit::NotAdmitted;
 
+// An enum of its own: of the three outcomes each has its next place, which an Option<Result<..>> would need beside it.
 #[derive(Clone, Copy)]
 pub enum Step {
     // There is no further item: the length as next place.
@@ -27,55 +28,42 @@ pub enum Step {
     },
 }
 
-#[derive(Clone, Copy)]
-pub enum StepAnswer {
-    Done(Step),
-    UnknownKind,
-    TooLarge,
-}
-
 // The plain step. The line of an error is counted in the lent bytes, and only where there is an error to tell.
-pub fn next(kind: u32, s: &[u8], place: usize) -> StepAnswer
+pub fn next(kind: u32, s: &[u8], place: usize) -> Result<Step, NotAdmitted>
     ensures { result ≡ plain_answer kind s.now place }
 {
-    let answer = next_on_line(kind, s, &s[0..0], place, 0);
-    match answer {
-        StepAnswer::Done(done) => match done {
-            Step::End { next: _ } => answer,
-            Step::Good { found: _, next: _ } => answer,
-            Step::Error {
-                fault,
-                line: _,
-                text,
-                next,
-            } => StepAnswer::Done(Step::Error {
-                fault,
-                line: line_number::line_number(s, place),
-                text,
-                next,
-            }),
-        },
-        StepAnswer::UnknownKind => answer,
-        StepAnswer::TooLarge => answer,
+    let mut step = next_on_line(kind, s, &s[0..0], place, 0)?;
+    if let Step::Error { line, .. } = &mut step {
+        *line = line_number::line_number(s, place);
     }
+    Ok(step)
 }
 
 // The step with a prefix: a good record whose name doesn't begin with it ends the iteration. It starts in the middle, and tells no line.
-pub fn next_with_prefix(kind: u32, s: &[u8], prefix: &[u8], place: usize) -> StepAnswer
+pub fn next_with_prefix(
+    kind: u32,
+    s: &[u8],
+    prefix: &[u8],
+    place: usize,
+) -> Result<Step, NotAdmitted>
     ensures { result ≡ prefix_answer kind prefix.now s.now place }
 {
     next_on_line(kind, s, prefix, place, 0)
 }
 
-// The step, where an error tells the line number that is given.
-pub fn next_on_line(kind: u32, s: &[u8], prefix: &[u8], place: usize, line: u64) -> StepAnswer
+// The step, where an error tells the line number that is given. Always inlined: a step is large, and would be copied on its way to the walk.
+#[inline(always)]
+pub fn next_on_line(
+    kind: u32,
+    s: &[u8],
+    prefix: &[u8],
+    place: usize,
+    line: u64,
+) -> Result<Step, NotAdmitted>
     ensures { result ≡ step_answer kind prefix.now s.now place line }
 {
-    match parse::limit::admit(kind, s.len(), prefix.len()) {
-        Admission::Digits(n) => { StepAnswer::Done(next_with_digits(n, prefix, s, place, line)) }
-        Admission::UnknownKind => StepAnswer::UnknownKind,
-        Admission::TooLarge => StepAnswer::TooLarge,
-    }
+    let n = parse::limit::admit(kind, s.len(), prefix.len())?;
+    Ok(next_with_digits(n, prefix, s, place, line))
 }
 
 // The same for ids of n digits.
@@ -87,7 +75,7 @@ pub fn next_with_digits(n: usize, prefix: &[u8], s: &[u8], place: usize, line: u
     }
     let rest = &s[place..];
     match decode::reference::reference(rest, n) {
-        Reading::Good(found) => {
+        Ok(found) => {
             let name = decode::reference::name_of(rest, n, found);
             if !compare::prefix::begins_with(name, prefix) {
                 return Step::End { next: s.len() };
@@ -97,7 +85,7 @@ pub fn next_with_digits(n: usize, prefix: &[u8], s: &[u8], place: usize, line: u
                 next: place + found.size,
             }
         }
-        Reading::Bad(fault) => {
+        Err(fault) => {
             let text = line_number::text_len(s, place);
             Step::Error {
                 fault,

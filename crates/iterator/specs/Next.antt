@@ -1,12 +1,12 @@
 -- What the step of an iteration that is one value answers, and where it leaves the iteration.
-use Rattle.std.specs.Prelude.{List, [], ◌∷◌, ℕ}
-use Rattle.iter.specs.declared.step.StepAnswer.{StepAnswer}
-use Rattle.iter.specs.declared.step.StepAnswer.TheVariants.{Done, UnknownKind, TooLarge}
+use Rattle.std.specs.Prelude.{List, [], ◌∷◌, ℕ, Result, Ok, Err}
 use Rattle.walker.specs.declared.Walked.{Walked}
 use Rattle.iter.specs.Step.{prefix_answer}
 use Rattle.walker.specs.Walk.{next_of, walk_answer}
 use Rattle.iterator.specs.declared.Iter.{Iter}
 use Rattle.iterator.specs.declared.Stepped.{Stepped}
+use Rattle.iter.specs.declared.step.Step.{Step}
+use Rattle.parse.specs.declared.limit.NotAdmitted.{NotAdmitted}
 
 -- the answer at a place on a line, and the line number that is handed on. An empty prefix is none, and then it is the walk. "Prefix iteration gives [..] 0 for
 -- the line number, since it starts in the middle."
@@ -17,15 +17,14 @@ step_with kind (b ∷ prefix) s place line = record { answer = prefix_answer kin
 abbrev pub taken : Iter → Walked
 taken it = step_with it.kind it.prefix.now it.s.now it.place it.line
 
-abbrev pub answer_of : Iter → StepAnswer
+abbrev pub answer_of : Iter → Result Step NotAdmitted
 answer_of it = (taken it).answer
 
 -- "returns the next of both": the place and the line number at which an answer leaves an iteration that came with these, where `on` is the number that is
 -- handed on. A refusal leaves both as they came
-abbrev pub next_of_both : ℕ → ℕ → ℕ → StepAnswer → ℕ × ℕ
-next_of_both place line on (Done step) = (next_of step, on)
-next_of_both place line on UnknownKind = (place, line)
-next_of_both place line on TooLarge = (place, line)
+abbrev pub next_of_both : ℕ → ℕ → ℕ → Result Step NotAdmitted → ℕ × ℕ
+next_of_both place line on (Ok step) = (next_of step, on)
+next_of_both place line on (Err why) = (place, line)
 
 -- the answer, with where it leaves the iteration
 abbrev pub stepped_from : ℕ → ℕ → Walked → Stepped

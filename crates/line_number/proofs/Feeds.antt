@@ -2,41 +2,33 @@
 use mathlib.Core.Path.{◌≡◌, refl, sym, ap, ◌∙◌}
 use mathlib.Core.Bool.{Bool, true, false, not}
 use mathlib.Core.List.{List, [], ◌∷◌, ◌++◌}
-use Prim.Native.Nat.{ℕ, zero, suc, ◌+◌, ◌≤◌, ◌<◌}
-use native.Mathlib.Numerals.{add-one}
+use Prim.Native.Nat.{ℕ, zero, suc, ◌+◌, ◌-◌, ◌^◌, ◌≤◌, ◌<◌, min}
 use native.Mathlib.Omega.{arith}
 use lib.Dec.{ltb, eqb}
-use lib.ListN.{get_or, length, take, drop, length-drop, drop_of_length-le}
+use lib.ListN.{get_or, length, take, drop, length-drop}
 use lib.Seq.{drop-cons, get_or-drop, take-add}
-use borrow.Author.Tests.{eq-eqb, ne_eqb, lt-ltb, ltb-true, ltb-false}
+use borrow.Author.Tests.{eq-eqb, lt-ltb, ltb-true, ltb-false}
 use Rattle.parse.specs.Choice.{if}
 use Rattle.parse.specs.Line.{eol, line_len}
 use Rattle.parse.proofs.Fronts.{Eol, none, lf, crlf, eol_view}
-use Rattle.parse.proofs.Runs.{span_le}
+use Rattle.parse.proofs.Runs.{span_le, line_reach}
+use Rattle.std.specs.Int.{from_bool}
 use Rattle.line_number.specs.LineNumber.{line_feeds, line_number, at_most, line_told, until_feed}
 
--- ---- one byte at a time, from a place on
+-- ---- among some bytes
 
--- any byte but a line feed, as those from 14 on are
+-- any byte but a line feed
 abbrev pub other : ℕ → Bool
 other b = not (eqb b 10)
 
-pub high_other : (b : ℕ) → 14 ≤ b → other b ≡ true
-high_other b h = rw (ne_eqb b 10 (λ e. omega arith))
-
-module _ (s : List ℕ) (i : ℕ) where
-  pub feeds_end : length s ≤ i → line_feeds (drop i s) ≡ 0
-  feeds_end h = rw (drop_of_length-le s h)
-
-  pub feeds_on : i < length s → line_feeds (drop i s) ≡ line_feeds (get_or s i 0 ∷ []) + line_feeds (drop (i + 1) s)
-  feeds_on h = ap line_feeds (drop-cons s i 0 h) ∙ go (eqb (get_or s i 0) 10) ∙ rw (add-one i)
-    where
-      rest : ℕ
-      rest = line_feeds (drop (suc i) s)
-
-      go : (c : Bool) → if c (suc rest) rest ≡ if c 1 0 + rest
-      go true = omega arith
-      go false = omega arith
+-- the largest number stays, as it does in std's sum
+pub most_is : (line : ℕ) → min line (2 ^ 64 - 1) ≡ at_most line
+unfolding at_most
+most_is line = go (ltb line 18446744073709551615) refl
+  where
+    go : (t : Bool) → ltb line 18446744073709551615 ≡ t → min line (2 ^ 64 - 1) ≡ if t line 18446744073709551615
+    go true e = omega (arith, ltb-true line 18446744073709551615 e)
+    go false e = omega (arith, ltb-false line 18446744073709551615 e)
 
 -- a number that fits is told as it is
 pub within : (line : ℕ) → line < 18446744073709551615 → at_most line ≡ line
@@ -58,14 +50,6 @@ pub true_line : (s : List ℕ) (place : ℕ) → length s ≤ 1073741824 → lin
 unfolding line_number
 true_line s place h = within (suc (line_feeds (take place s))) (omega (arith, feeds_le s place))
 
--- a byte is one at most
-pub feed_le : (b : ℕ) → line_feeds (b ∷ []) ≤ 1
-feed_le b = go (eqb b 10)
-  where
-    go : (c : Bool) → if c 1 0 ≤ 1
-    go true = omega arith
-    go false = omega arith
-
 -- ---- up to a place, and from there over more bytes
 
 pub feeds_append : (a b : List ℕ) → line_feeds (a ++ b) ≡ line_feeds a + line_feeds b
@@ -79,6 +63,16 @@ feeds_append (c ∷ a) b = go (eqb c 10) (feeds_append a b)
 
 pub feeds_take : (s : List ℕ) (i k : ℕ) → line_feeds (take (i + k) s) ≡ line_feeds (take i s) + line_feeds (take k (drop i s))
 feeds_take s i k = ap line_feeds (take-add i k s) ∙ feeds_append (take i s) (take k (drop i s))
+
+-- one more byte
+pub feeds_next : (s : List ℕ) (i : ℕ) → i < length s → line_feeds (take (i + 1) s) ≡ line_feeds (take i s) + from_bool (eqb (get_or s i 0) 10)
+feeds_next s i h =
+    let one : take 1 (drop i s) ≡ get_or s i 0 ∷ [] = rw (drop-cons s i 0 h) in
+    feeds_take s i 1 ∙ ap (λ (l : List ℕ). line_feeds (take i s) + line_feeds l) one ∙ ap (λ (n : ℕ). line_feeds (take i s) + n) (go (eqb (get_or s i 0) 10))
+  where
+    go : (c : Bool) → if c 1 0 ≡ from_bool c
+    go true = refl
+    go false = refl
 
 -- the line number behind some bytes is their line feeds more
 pub number_on : (s : List ℕ) (place k : ℕ) → line_number s (place + k) ≡ line_number s place + line_feeds (take k (drop place s))
@@ -123,18 +117,7 @@ until_at (b ∷ s) (suc i) h = go (eqb b 10) (until_at s i h)
 pub ended_line : (s : List ℕ) (i : ℕ) → suc i ≡ line_len s → get_or s i 0 ≡ 10 → line_feeds (take (line_len s) s) ≡ 1
 ended_line s i e h = omega (arith, line_parts s, one_feed s, until_at s i h)
 
--- text that is all there is has no line feed behind it, and any other has one
-pub text_end_lem : (s : List ℕ) → (until_feed s < length s → line_len s ≡ until_feed s + 1) × (length s ≤ until_feed s → line_len s ≡ until_feed s)
-text_end_lem [] = (λ h. absurd (omega arith), λ h. refl)
-text_end_lem (b ∷ s) = go (eqb b 10) (text_end_lem s)
-  where
-    go : (c : Bool) → (until_feed s < length s → line_len s ≡ until_feed s + 1) × (length s ≤ until_feed s → line_len s ≡ until_feed s)
-        → (if (not c) (suc (until_feed s)) 0 < suc (length s) → if c 1 (suc (line_len s)) ≡ if (not c) (suc (until_feed s)) 0 + 1)
-        × (suc (length s) ≤ if (not c) (suc (until_feed s)) 0 → if c 1 (suc (line_len s)) ≡ if (not c) (suc (until_feed s)) 0)
-    go true h = (λ l. omega arith, λ l. absurd (omega arith))
-    go false h = (λ l. omega (arith, h.0 (omega arith)), λ l. omega (arith, h.1 (omega arith)))
-
--- so the line from a place on ends behind its line feed, or with the bytes
+-- the line from a place on ends behind its line feed, or with the bytes
 pub line_behind_lem : (s : List ℕ) (place : ℕ) → place ≤ length s
     → if (ltb (place + until_feed (drop place s)) (length s)) (place + until_feed (drop place s) + 1) (place + until_feed (drop place s)) ≡ place + line_len (drop place s)
 line_behind_lem s place inside = go (ltb (place + until_feed (drop place s)) (length s)) refl
@@ -143,8 +126,8 @@ line_behind_lem s place inside = go (ltb (place + until_feed (drop place s)) (le
     t = drop place s
 
     go : (c : Bool) → ltb (place + until_feed t) (length s) ≡ c → if c (place + until_feed t + 1) (place + until_feed t) ≡ place + line_len t
-    go true e = omega (arith, (text_end_lem t).0 (omega (arith, ltb-true (place + until_feed t) (length s) e, length-drop place s)))
-    go false e = omega (arith, (text_end_lem t).1 (omega (arith, ltb-false (place + until_feed t) (length s) e, length-drop place s)))
+    go true e = omega (arith, (line_reach t).0 (omega (arith, ltb-true (place + until_feed t) (length s) e, length-drop place s)))
+    go false e = omega (arith, (line_reach t).1 (omega (arith, ltb-false (place + until_feed t) (length s) e, length-drop place s)))
 
 -- the text of a line lies in it, and is the text of its own bytes
 pub until_in : (s : List ℕ) → until_feed s ≤ line_len s

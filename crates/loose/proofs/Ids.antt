@@ -6,7 +6,6 @@ use Prim.Native.Nat.{ℕ, zero, suc, ◌+◌, ◌≤◌, ◌<◌}
 use native.Mathlib.Omega.{arith}
 use borrow.Author.Tests.{eq-eqb, ne_eqb}
 use lib.ListN.{length, get_or, drop}
-use Rattle.parse.specs.declared.part.Past.TheVariants.{At, Unread}
 use Rattle.parse.specs.Choice.{if}
 use Rattle.class.specs.Class.{Classes}
 use Rattle.parse.specs.Run.{span}
@@ -14,6 +13,7 @@ use Rattle.id.specs.Id.{id_at}
 use Rattle.parse.proofs.Runs.{span_end, span_stop, span_go}
 use Rattle.id.proofs.Ids.{IdView, id, no_id, id_view}
 use Rattle.loose.specs.Loose.{full_id}
+use Rattle.std.specs.declared.option.Option.TheVariants.{None, Some}
 
 -- a run of n bytes and more is those and the run behind them
 span_behind : (p : ℕ → Bool) (n : ℕ) (s : List ℕ) → n ≤ span p s → span p s ≡ n + span p (drop n s)
@@ -27,14 +27,14 @@ span_behind p (suc n) (b ∷ s) h = go (p b) h (span_behind p n s)
     go false k ih = absurd (omega arith)
 
 module _ (byte : Classes) (n : ℕ) (s : List ℕ) where
-  pub too_few : id_at byte n s 0 ≡ Unread → full_id byte n s ≡ false
+  pub too_few : id_at byte n s 0 ≡ None → full_id byte n s ≡ false
   too_few h = go (id_view byte n s 0)
     where
       go : IdView byte n s 0 → full_id byte n s ≡ false
       go (id some e) = cc
       go (no_id few e) = ne_eqb (span byte.hex s) n (λ k. omega arith)
 
-  module _ {end : ℕ} (digits : id_at byte n s 0 ≡ At end) where
+  module _ {end : ℕ} (digits : id_at byte n s 0 ≡ Some end) where
     -- n digits were read, and so many stand at the front
     passed : (end ≡ n) × (span byte.hex s ≡ end + span byte.hex (drop end s))
     passed = go (id_view byte n s 0)

@@ -2,3 +2,4 @@
 mod Contents
 pub mod Examples
 mod Ids
+mod Runs

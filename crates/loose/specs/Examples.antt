@@ -1,9 +1,12 @@
 -- The examples of document 01, and the cases beside them, as one list; id kind 1.
-use Rattle.std.specs.Prelude.{◌≡◌, List, [], ◌∷◌, ◌++◌, map, ℕ, take, drop, replicate}
-use Rattle.loose.specs.declared.Loose.TheVariants.{Id, Symbolic, Unreadable, BadTarget}
-use Rattle.loose.specs.declared.LooseAnswer.{LooseAnswer}
-use Rattle.loose.specs.declared.LooseAnswer.TheVariants.{Done, UnknownKind, TooLarge}
+use Rattle.std.specs.Prelude.{◌≡◌, List, [], ◌∷◌, ◌++◌, map, ℕ, take, drop, replicate, Result, Ok, Err}
 use Rattle.loose.specs.Loose.{ref_mark, loose_answer, loose_number}
+use Rattle.loose.specs.declared.Loose.{Loose}
+use Rattle.loose.specs.declared.Loose.TheVariants.{Id, Symbolic}
+use Rattle.loose.specs.declared.LooseFault.{LooseFault}
+use Rattle.loose.specs.declared.LooseFault.TheVariants.{BadTarget, Unreadable}
+use Rattle.parse.specs.declared.limit.NotAdmitted.{NotAdmitted}
+use Rattle.parse.specs.declared.limit.NotAdmitted.TheVariants.{TooLarge, UnknownKind}
 
 -- what an answer comes to for its reader: the bytes of the id or of the target, or the number of the refusal
 pub data Outcome : Type 0 where
@@ -11,13 +14,13 @@ pub data Outcome : Type 0 where
   symbolic : List ℕ → Outcome
   refused : ℕ → Outcome
 
-abbrev pub outcome : List ℕ → LooseAnswer → Outcome
-outcome content (Done (Id n)) = id (take n content)
-outcome content (Done (Symbolic from len)) = symbolic (take len (drop from content))
-outcome content (Done Unreadable) = refused (loose_number (Done Unreadable))
-outcome content (Done BadTarget) = refused (loose_number (Done BadTarget))
-outcome content UnknownKind = refused (loose_number UnknownKind)
-outcome content TooLarge = refused (loose_number TooLarge)
+abbrev pub outcome : List ℕ → Result (Result Loose LooseFault) NotAdmitted → Outcome
+outcome content (Ok (Ok (Id n))) = id (take n content)
+outcome content (Ok (Ok (Symbolic from len))) = symbolic (take len (drop from content))
+outcome content (Ok (Err Unreadable)) = refused (loose_number (Ok (Err Unreadable)))
+outcome content (Ok (Err BadTarget)) = refused (loose_number (Ok (Err BadTarget)))
+outcome content (Err UnknownKind) = refused (loose_number (Err UnknownKind))
+outcome content (Err TooLarge) = refused (loose_number (Err TooLarge))
 
 -- content, and what reading it has to come to
 pub record Case : Type 0 where

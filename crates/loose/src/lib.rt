@@ -7,13 +7,12 @@
 // spaces, and it ends at the first NUL, CR or LF, or where the content ends.
 #![tactic(auto)]
 
-ghost use Rattle.std.specs.Prelude.{◌≡◌, ◌+◌, take, drop};
-ghost use Rattle.class.specs.Class.{paper, classes_of, class_table};
+ghost use Rattle.std.specs.Prelude.{◌≡◌, ◌+◌, ℕ, Bool, not, take, drop};
+ghost use Rattle.class.specs.Class.{paper};
 ghost use Rattle.parse.specs.Run.{span};
-ghost use Rattle.loose.specs.Loose.{is_space, ends_path, path_len, full_id, loose_of, loose_answer};
+ghost use Rattle.loose.specs.Loose.{ends_path, symbolic_of, full_id, loose_of, loose_answer};
 
-use parse::limit::Admission;
-use parse::part::Past;
+use parse::limit::NotAdmitted;
 
 // What content says.
 #[derive(Clone, Copy)]
@@ -22,48 +21,51 @@ pub enum Loose {
     Id(usize),
     // The valid name of another reference: its place and its length. `target_of` hands back its bytes.
     Symbolic { from: usize, len: usize },
-    // Neither `ref: ` nor an id.
-    Unreadable,
-    // `ref: ` without a valid name.
-    BadTarget,
 }
 
-// The same for any id kind, with the kind's refusal first, then the size limit.
+// Why content says nothing, by its number.
 #[derive(Clone, Copy)]
-pub enum LooseAnswer {
-    Done(Loose),
-    UnknownKind,
-    TooLarge,
+pub enum LooseFault {
+    // Neither `ref: ` nor an id.
+    Unreadable = 15,
+    // `ref: ` without a valid name.
+    BadTarget = 16,
 }
 
-pub fn read(kind: u32, content: &[u8]) -> LooseAnswer
+// The content for any id kind, with the kind's refusal first, then the size limit.
+#[tactic(auto, unfolding(crate::specs::Loose::loose_answer))]
+pub fn read(kind: u32, content: &[u8]) -> Result<Result<Loose, LooseFault>, NotAdmitted>
     ensures { result ≡ loose_answer kind content.now }
 {
-    match parse::limit::admit(kind, content.len(), 0) {
-        Admission::Digits(n) => LooseAnswer::Done(read_with_digits(n, content)),
-        Admission::UnknownKind => LooseAnswer::UnknownKind,
-        Admission::TooLarge => LooseAnswer::TooLarge,
-    }
+    let n = parse::limit::admit(kind, content.len(), 0)?;
+    Ok(read_with_digits(n, content))
 }
 
 // The same for ids of n digits.
-pub fn read_with_digits(n: usize, content: &[u8]) -> Loose
+#[tactic(auto, unfolding(crate::specs::Loose::loose_of))]
+pub fn read_with_digits(n: usize, content: &[u8]) -> Result<Loose, LooseFault>
     ensures { result ≡ loose_of paper n content.now }
 {
-    let t = class::table();
     if compare::prefix::begins_with(content, b"ref: ") {
-        let from = past_spaces(content, 5);
-        let end = path_end(&t, content, from);
-        if !name::is_valid(parse::part::between(content, from, end)) {
-            return Loose::BadTarget;
-        }
-        let len = end - from;
-        return Loose::Symbolic { from, len };
+        return symbolic(content);
     }
-    if full_id(&t, n, content) {
-        return Loose::Id(n);
+    if full_id(n, content) {
+        return Ok(Loose::Id(n));
     }
-    Loose::Unreadable
+    Err(LooseFault::Unreadable)
+}
+
+// What stands behind the mark `ref: `.
+fn symbolic(content: &[u8]) -> Result<Loose, LooseFault>
+    ensures { result ≡ symbolic_of paper content.now }
+{
+    let from = first(content, 5, |b| b != b' ');
+    let end = first(content, from, ends_path);
+    if !name::is_valid(parse::part::between(content, from, end)) {
+        return Err(LooseFault::BadTarget);
+    }
+    let len = end - from;
+    Ok(Loose::Symbolic { from, len })
 }
 
 // The target of a symbolic reference, as that part of the lent content. A place and a length that no answer told give as many bytes as there are
@@ -75,51 +77,28 @@ pub fn target_of(content: &[u8], from: usize, len: usize) -> &[u8]
     parse::part::between(rest, 0, len)
 }
 
-// The place of the first byte from a place on that is no space, or the end; the place itself where that is beyond the end.
-fn past_spaces(s: &[u8], at: usize) -> usize
-    ensures { result ≡ at + span is_space (drop at s.now) }
+// The place of the first byte from a place on that passes a test, or the end; the place itself where that is beyond the end.
+fn first<F: Fn(u8) -> bool>(s: &[u8], at: usize, test: F) -> usize
+    requires { F.IsAlwaysCallable test }
+    ensures { (fails : ℕ → Bool) → ((b : ℕ) (passes : Bool) → F.post test b passes → passes ≡ not (fails b)) → result ≡ at + span fails (drop at s.now) }
 {
-    let mut i = at;
-    while i < s.len() {
-        if s[i] != b' ' {
-            return i;
-        }
-        i += 1;
-    }
-    i
-}
-
-// The place of the first byte from a place on that ends a path, or the end; the place itself where that is beyond the end.
-fn path_end(t: &[u8; 256], s: &[u8], at: usize) -> usize
-    ensures { result ≡ at + path_len (classes_of t.now) (drop at s.now) }
-{
-    let mut i = at;
-    while i < s.len() {
-        if ends_path(t, s[i]) {
-            return i;
-        }
-        i += 1;
-    }
-    i
+    let rest = parse::part::between(s, at, s.len());
+    at + rest.iter().position(|b| test(*b)).unwrap_or(rest.len())
 }
 
 // Whether a byte is NUL, CR or LF.
-fn ends_path(t: &[u8; 256], b: u8) -> bool
-    ensures { result ≡ ends_path (classes_of t.now) b }
+fn ends_path(b: u8) -> bool
+    ensures { result ≡ ends_path paper b }
 {
-    (b == 0) | class::is_line_end(t, b)
+    (b == 0) | class::is_cr_or_lf(b)
 }
 
 // Whether an id of n digits stands at the front, with no further digit behind it.
-fn full_id(t: &[u8; 256], n: usize, s: &[u8]) -> bool
-    requires { t.now ≡ class_table }
+fn full_id(n: usize, s: &[u8]) -> bool
     ensures { result ≡ full_id paper n s.now }
 {
-    let Past::At(end) = id::hex_hash(s, 0, n) else {
+    let Some(end) = id::hex_hash(s, 0, n) else {
         return false;
     };
-    if s.len() <= end {
-        return true;
-    }
-    !class::is_hex(t, s[end])
+    s.len() <= end || !class::is_hex_digit(s[end])
 }

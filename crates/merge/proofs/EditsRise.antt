@@ -8,7 +8,6 @@ use lib.Dec.{ltb}
 use lib.ListN.{length, get_or}
 use lib.Seq.{take-length}
 use borrow.Author.Tests.{ltb-false}
-use Rattle.compare.specs.declared.order.Order.TheVariants.{Less}
 use Rattle.parse.specs.Choice.{if}
 use Rattle.class.specs.Class.{Classes, paper}
 use Rattle.parse.specs.Limit.{over_limit}
@@ -16,8 +15,6 @@ use Rattle.compare.specs.Order.{order_of}
 use Rattle.name.specs.Name.{valid_name}
 use Rattle.name.proofs.Laws.{not_empty}
 use Rattle.places.specs.declared.name.Layout.TheVariants.{Edit}
-use Rattle.sort.specs.declared.twin.Twin.{Twin}
-use Rattle.sort.specs.declared.twin.Twin.TheVariants.{At, Nothing}
 use Rattle.parts.specs.Parts.{edit_name}
 use Rattle.places.specs.Name.{standing_name}
 use Rattle.places.specs.Order.{comes_first}
@@ -25,13 +22,17 @@ use Rattle.sort.specs.Twin.{first_twin}
 use Rattle.sort.proofs.Pairs.{Each, each_map, Pairs, pairs_by}
 use Rattle.sort.proofs.Sorting.{each_sorted}
 use Rattle.sort.proofs.Theorems.{no_twin_names_rise}
-use Rattle.edits.specs.declared.list.Prepared.TheVariants.{Ready, ShortIndex, TooLarge}
 use Rattle.edits.specs.List.{Listed, all, bad, edits_of, places_of, in_order, twins_by, twins_of, prepared_by, prepared_of}
 use Rattle.edits.proofs.Ordering.{length_order}
 use Rattle.merge.specs.Override.{edits_at}
 use Rattle.merge.specs.Splice.{Above, Rising}
 use Rattle.merge.proofs.EditsSound.{IsEdit, places_edits, edit_name_valid, edit_puts}
 use Rattle.merge.proofs.Entries.{Rises}
+use Rattle.std.specs.declared.cmp.Ordering.TheVariants.{Less}
+use Rattle.std.specs.declared.option.Option.{Option}
+use Rattle.std.specs.declared.option.Option.TheVariants.{None, Some}
+use Rattle.std.specs.declared.result.Result.TheVariants.{Err, Ok}
+use Rattle.edits.specs.declared.list.NotPrepared.TheVariants.{ShortIndex, TooLarge}
 
 -- ---- names that rise
 
@@ -44,7 +45,7 @@ module _ (list : List ℕ) where
   rising [] e = tt
   rising (p ∷ l) e = (above (edit_name list p) l e.0, rising l e.1)
 
-  pub in_order_rising : (places : List ℕ) → first_twin (standing_name Edit list) (in_order list places) ≡ Nothing → Rising list (in_order list places)
+  pub in_order_rising : (places : List ℕ) → first_twin (standing_name Edit list) (in_order list places) ≡ None → Rising list (in_order list places)
   in_order_rising places none =
       rising (in_order list places)
       (pairs_by (λ p q. order_of (edit_name list p) (edit_name list q) ≡ Less) (in_order list places) (no_twin_names_rise Edit list places none))
@@ -65,7 +66,7 @@ module _ (n : ℕ) (list places : List ℕ) (listed : edits_of paper n list ≡ 
     rises last [] e a r = tt
     rises last (p ∷ l) e a r = (a.0, edit_puts n list p e.0 half even bytes, rises (edit_name list p) l e.1 r.0 r.1)
 
-    pub in_order_rises : first_twin (standing_name Edit list) (in_order list places) ≡ Nothing → Rises n [] (edits_at n list (in_order list places))
+    pub in_order_rises : first_twin (standing_name Edit list) (in_order list places) ≡ None → Rises n [] (edits_at n list (in_order list places))
     in_order_rises none =
         let names =
         each_map (IsEdit paper n list) (λ p. order_of [] (edit_name list p) ≡ Less)
@@ -81,18 +82,18 @@ pub record Readied (byte : Classes) (n : ℕ) (list : List ℕ) (room k : ℕ) :
   pub in_order_lem : length (in_order list (places_of (edits_of byte n list))) ≡ k
   pub room_enough : k ≤ room
   pub few : k ≤ 4096
-  pub no_twin : first_twin (standing_name Edit list) (in_order list (places_of (edits_of byte n list))) ≡ Nothing
+  pub no_twin : first_twin (standing_name Edit list) (in_order list (places_of (edits_of byte n list))) ≡ None
 
 module _ (byte : Classes) (n : ℕ) (list : List ℕ) (room k : ℕ) where
-  ready_twin : (count : ℕ) (t : Twin) → twins_by count t ≡ Ready k → (count ≡ k) × (t ≡ Nothing)
-  ready_twin count (At place) e = absurd (let z : ◌≡◌ {A = ℕ} 0 1 = cc in omega arith)
-  ready_twin count Nothing e = (cc, refl)
+  ready_twin : (count : ℕ) (t : Option ℕ) → twins_by count t ≡ Ok k → (count ≡ k) × (t ≡ None)
+  ready_twin count (Some place) e = absurd (let z : ◌≡◌ {A = ℕ} 0 1 = cc in omega arith)
+  ready_twin count None e = (cc, refl)
 
-  ready_all : (l : List ℕ) → edits_of byte n list ≡ all l → prepared_by list room (all l) ≡ Ready k → Readied byte n list room k
+  ready_all : (l : List ℕ) → edits_of byte n list ≡ all l → prepared_by list room (all l) ≡ Ok k → Readied byte n list room k
   unfolding twins_of
   ready_all l q e = go (ltb room (length l)) refl e
     where
-      go : (t : Bool) → ltb room (length l) ≡ t → if t ShortIndex (twins_by (length l) (first_twin (standing_name Edit list) (in_order list l))) ≡ Ready k
+      go : (t : Bool) → ltb room (length l) ≡ t → if t (Err ShortIndex) (twins_by (length l) (first_twin (standing_name Edit list) (in_order list l))) ≡ Ok k
           → Readied byte n list room k
       go true p e = absurd (let z : ◌≡◌ {A = ℕ} 0 1 = cc in omega arith)
       go false p e =
@@ -107,11 +108,11 @@ module _ (byte : Classes) (n : ℕ) (list : List ℕ) (room k : ℕ) where
             no_twin = rw q no_twin;
           }
 
-  pub readied : prepared_of byte n list room ≡ Ready k → Readied byte n list room k
+  pub readied : prepared_of byte n list room ≡ Ok k → Readied byte n list room k
   unfolding prepared_of
   readied e = go (over_limit (length list)) (edits_of byte n list) refl e
     where
-      go : (t : Bool) (x : Listed) → edits_of byte n list ≡ x → if t TooLarge (prepared_by list room x) ≡ Ready k → Readied byte n list room k
+      go : (t : Bool) (x : Listed) → edits_of byte n list ≡ x → if t (Err TooLarge) (prepared_by list room x) ≡ Ok k → Readied byte n list room k
       go true x q e = absurd (let z : ◌≡◌ {A = ℕ} 0 1 = cc in omega arith)
       go false (all l) q e = ready_all l q e
       go false (bad why) q e = absurd (let z : ◌≡◌ {A = ℕ} 0 1 = cc in omega arith)

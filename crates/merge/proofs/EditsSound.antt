@@ -12,10 +12,7 @@ use Rattle.parse.specs.Choice.{if}
 use Rattle.class.specs.Class.{Classes, paper}
 use Rattle.name.specs.Name.{valid_name}
 use Rattle.sort.proofs.Pairs.{Each}
-use Rattle.edit.specs.declared.EditReading.{EditReading}
-use Rattle.edit.specs.declared.EditReading.TheVariants.{Good, Bad}
-use Rattle.length.specs.declared.Length.TheVariants as long
-use Rattle.length.specs.Length.{length_at}
+use Rattle.length.specs.Length.{length_at, length_of}
 use Rattle.length.proofs.Groups.{length_there}
 use Rattle.parts.specs.Parts.{edit_kind, edit_name, behind_name}
 use Rattle.parts.proofs.Parts.{name_there, behind_there}
@@ -27,6 +24,9 @@ use Rattle.hex_digits.proofs.Laws.{length_hex, hex_is_hex}
 use Rattle.merge.specs.Override.{new_of, edit_at}
 use Rattle.edit.proofs.Parts.{Whole, good_whole}
 use Rattle.merge.proofs.Entries.{Digits, AllOf}
+use Rattle.std.specs.declared.result.Result.{Result}
+use Rattle.std.specs.declared.result.Result.TheVariants.{Err, Ok}
+use Rattle.edit.specs.declared.EditFault.{EditFault}
 
 -- ---- a list that has no fault: at each place a good edit stands, and there are no more of them than turns
 
@@ -44,7 +44,7 @@ module _ (byte : Classes) (n : ℕ) (list : List ℕ) where
       go false e = absurd (let z : ◌≡◌ {A = ℕ} 0 1 = cc in omega arith)
   edits_from_lem (suc turns) place (p ∷ l) e = go (ltb place (length list)) (edit_of byte n (drop place list)) refl (λ k. edits_from_lem turns k l) e
     where
-      next : (size : ℕ) → edit_of byte n (drop place list) ≡ Good size → (x : Listed) → edits_from byte n list turns (place + size) ≡ x
+      next : (size : ℕ) → edit_of byte n (drop place list) ≡ Ok size → (x : Listed) → edits_from byte n list turns (place + size) ≡ x
           → ((k : ℕ) → edits_from byte n list turns k ≡ all l → Each IsEdit l × (length l ≤ turns))
           → with_place place x ≡ all (p ∷ l) → Each IsEdit (p ∷ l) × (length (p ∷ l) ≤ suc turns)
       next size q (all m) r rest e =
@@ -54,13 +54,13 @@ module _ (byte : Classes) (n : ℕ) (list : List ℕ) where
           ((rw z at (good_whole byte n (drop place list) size q), w.0), omega (arith, w.1))
       next size q (bad why) r rest e = absurd (let z : ◌≡◌ {A = ℕ} 0 1 = cc in omega arith)
 
-      go : (t : Bool) (x : EditReading) → edit_of byte n (drop place list) ≡ x
+      go : (t : Bool) (x : Result ℕ EditFault) → edit_of byte n (drop place list) ≡ x
           → ((k : ℕ) → edits_from byte n list turns k ≡ all l → Each IsEdit l × (length l ≤ turns))
           → if t (listed_by x place (λ size. with_place place (edits_from byte n list turns (place + size)))) (all []) ≡ all (p ∷ l)
           → Each IsEdit (p ∷ l) × (length (p ∷ l) ≤ suc turns)
       go false x q rest e = absurd (let z : ◌≡◌ {A = ℕ} 0 1 = cc in omega arith)
-      go true (Good size) q rest e = next size q (edits_from byte n list turns (place + size)) refl rest e
-      go true (Bad f) q rest e = absurd (let z : ◌≡◌ {A = ℕ} 0 1 = cc in omega arith)
+      go true (Ok size) q rest e = next size q (edits_from byte n list turns (place + size)) refl rest e
+      go true (Err f) q rest e = absurd (let z : ◌≡◌ {A = ℕ} 0 1 = cc in omega arith)
 
   pub places_edits : (places : List ℕ) → edits_of byte n list ≡ all places → Each IsEdit places × (length places ≤ 4096)
   unfolding edits_of
@@ -96,7 +96,7 @@ module _ (n half : ℕ) (even : n ≡ 2 * half) where
 -- ---- the edit at a place
 
 module _ (n : ℕ) (list : List ℕ) (place : ℕ) (w : IsEdit paper n list place) where
-  measure : length_at list (place + 1) ≡ long.Of w.len (place + w.from)
+  measure : length_at list (place + 1) ≡ length_of w.len (place + w.from)
   measure = length_there list place w.measure
 
   pub edit_name_valid : valid_name paper (edit_name list place) ≡ true

@@ -5,12 +5,12 @@ use mathlib.Core.List.{List, [], ◌∷◌}
 use mathlib.Core.Option.{Option, none, some}
 use Prim.Native.Nat.{ℕ, ◌<◌}
 use lib.ListN.{length, get_or}
-use Rattle.compare.specs.declared.order.Order.TheVariants.{Less}
 use Rattle.class.specs.Class.{paper, is_hex}
 use Rattle.compare.specs.Order.{order_of}
 use Rattle.name.specs.Name.{valid_name}
 use Rattle.decode.specs.Entry.{Entry}
 use Rattle.merge.specs.Override.{Override}
+use Rattle.std.specs.declared.cmp.Ordering.TheVariants.{Less}
 
 pub record Digits (n : ℕ) (id : List ℕ) : Type 0 where
   pub long : length id ≡ n

@@ -3,12 +3,12 @@ use mathlib.Core.Path.{◌≡◌, ap, ◌∙◌}
 use mathlib.Core.Bool.{false}
 use mathlib.Core.List.{List, [], ◌∷◌}
 use Prim.Native.Nat.{ℕ}
-use Rattle.compare.specs.declared.order.Order.TheVariants.{Less}
 use Rattle.compare.specs.Order.{order_of}
 use Rattle.compare.specs.Prefix.{same}
 use Rattle.compare.proofs.Orders.{is_equal, same_by_order, less_flip, less_trans}
 use Rattle.decode.specs.Entry.{Entry}
 use Rattle.merge.proofs.Entries.{Ascends}
+use Rattle.std.specs.declared.cmp.Ordering.TheVariants.{Less}
 
 pub same_greater : (a b : List ℕ) → order_of a b ≡ Less → same b a ≡ false
 same_greater a b h = same_by_order b a ∙ ap is_equal (less_flip a b h)

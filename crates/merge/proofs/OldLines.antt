@@ -16,7 +16,6 @@ use Rattle.parse.proofs.Fronts as fronts
 use Rattle.name.specs.Name.{valid_name}
 use Rattle.name.proofs.Laws.{valid_text}
 use Rattle.decode.specs.declared.reference.Record.{Record}
-use Rattle.decode.specs.declared.reference.Reading.TheVariants.{Good}
 use Rattle.decode.specs.Entry.{entry_of}
 use Rattle.decode.specs.Record.{record_of}
 use Rattle.decode.proofs.Entry.{entry_inside}
@@ -28,6 +27,8 @@ use Rattle.put.proofs.Crs.{without_append, without_none}
 use Rattle.lines.specs.Lines.{record_line, peeled_line, lines_of}
 use Rattle.merge.proofs.GoodItems.{Each, each_good}
 use Rattle.merge.proofs.OldSound.{front_digits}
+use Rattle.std.specs.declared.option.Option.TheVariants.{None, Some}
+use Rattle.std.specs.declared.result.Result.TheVariants.{Ok}
 
 -- ---- ids and names hold no CR, and a line end without its CR is LF
 
@@ -111,17 +112,17 @@ module _ (n : ℕ) (s : List ℕ) where
 
   -- ---- both lines, or the first alone
 
-  pub good_lines : (r : Record) → record_of paper n s ≡ Good r → without_cr (take r.size s) ≡ lines_of (entry_of n s r)
+  pub good_lines : (r : Record) → record_of paper n s ≡ Ok r → without_cr (take r.size s) ≡ lines_of (entry_of n s r)
   good_lines r e = go (view paper n s)
     where
       go : View paper n s → without_cr (take r.size s) ≡ lines_of (entry_of n s r)
       go (is_bad_lem f w q) = absurd (let z : ◌≡◌ {A = ℕ} 0 1 = cc in omega arith)
       go (plain h c q) =
-          let w : r ≡ record { name_len = name_len paper n s; peeled = 0; size = size } = cc in
+          let w : r ≡ record { name_len = name_len paper n s; peeled = None; size = size } = cc in
           rw (w, add-one n) (first_line_lem h ∙ sym (append-nil (record_line (take n s) name)))
       go (peeled h c p q) =
           let k = peel_len paper n (drop size s) in
-          let w : r ≡ record { name_len = name_len paper n s; peeled = suc size; size = size + k } = cc in
+          let w : r ≡ record { name_len = name_len paper n s; peeled = Some (suc size); size = size + k } = cc in
           rw (w, add-one n)
           (ap without_cr (take-add size k s)
           ∙ without_append (take size s) (take k (drop size s))

@@ -11,11 +11,8 @@ use Rattle.parse.specs.Choice.{if}
 use Rattle.class.specs.Class.{paper, is_hex}
 use Rattle.parse.specs.Run.{span}
 use Rattle.parse.proofs.Runs.{span_le}
-use Rattle.compare.specs.declared.order.Order.TheVariants.{Less}
 use Rattle.compare.specs.Order.{order_of}
 use Rattle.decode.specs.declared.reference.Record.{Record}
-use Rattle.decode.specs.declared.reference.Reading.{Reading}
-use Rattle.decode.specs.declared.reference.Reading.TheVariants.{Good, Bad}
 use Rattle.decode.specs.Entry.{entry_of}
 use Rattle.decode.specs.Record.{record_of, decoded}
 use Rattle.decode.proofs.Entry.{entry_inside}
@@ -25,6 +22,11 @@ use Rattle.iter.specs.Items.{Item, items, name_in, name_of}
 use Rattle.checks.specs.Passes.{all_good, IsAscending}
 use Rattle.merge.proofs.GoodItems.{OfGood, Each, each_good}
 use Rattle.merge.proofs.Entries.{Digits, Sound, AllSound, Ascends}
+use Rattle.std.specs.declared.cmp.Ordering.TheVariants.{Less}
+use Rattle.std.specs.declared.option.Option.TheVariants.{None, Some}
+use Rattle.std.specs.declared.result.Result.{Result}
+use Rattle.std.specs.declared.result.Result.TheVariants.{Err, Ok}
+use Rattle.decode.specs.declared.reference.Fault.{Fault}
 
 -- no name is smaller than the empty one
 pub none_smaller : (last : List ℕ) → order_of last [] ≡ Less → ⊥
@@ -62,16 +64,16 @@ module _ (n : ℕ) (s : List ℕ) where
       let d : drop 1 (drop k s) ≡ drop (suc k) s = rw (add-one k) at (drop-drop 1 k s) in
       rw (← d) (front_digits n (drop 1 (drop k s)) p.id)
 
-  record_sound : (r : Record) → record_of paper n s ≡ Good r → Sound n (entry_of n s r)
+  record_sound : (r : Record) → record_of paper n s ≡ Ok r → Sound n (entry_of n s r)
   record_sound r e = go (view paper n s)
     where
       go : View paper n s → Sound n (entry_of n s r)
       go (is_bad_lem f w q) = absurd (let z : ◌≡◌ {A = ℕ} 0 1 = cc in omega arith)
       go (plain h c q) =
-          let w : r ≡ record { name_len = name_len paper n s; peeled = 0; size = head_len paper n s } = cc in
+          let w : r ≡ record { name_len = name_len paper n s; peeled = None; size = head_len paper n s } = cc in
           rw w (record { id = front_digits n s h.id; name = rw (add-one n) h.name; peeled = tt })
       go (peeled h c p q) =
-          let w : r ≡ record { name_len = name_len paper n s; peeled = suc (head_len paper n s); size = head_len paper n s + peel_len paper n (drop (head_len paper n s) s) } = cc in
+          let w : r ≡ record { name_len = name_len paper n s; peeled = Some (suc (head_len paper n s)); size = head_len paper n s + peel_len paper n (drop (head_len paper n s) s) } = cc in
           rw w (record { id = front_digits n s h.id; name = rw (add-one n) h.name; peeled = peeled_digits p })
 
 -- ---- all items of some bytes
@@ -84,9 +86,9 @@ module _ (n : ℕ) where
   all_sound [] e = tt
   all_sound (i ∷ l) e = go i.what e.0 (all_sound l e.1)
     where
-      go : (w : Reading) → OfGood SoundRecord w i.bytes → AllSound n (entries_of n l) → AllSound n (decoded w (λ r. entry_of n i.bytes r ∷ entries_of n l) (λ f. entries_of n l))
-      go (Good r) first rest = (first, rest)
-      go (Bad f) first rest = rest
+      go : (w : Result Record Fault) → OfGood SoundRecord w i.bytes → AllSound n (entries_of n l) → AllSound n (decoded w (λ r. entry_of n i.bytes r ∷ entries_of n l) (λ f. entries_of n l))
+      go (Ok r) first rest = (first, rest)
+      go (Err f) first rest = rest
 
   pub olds_sound : (s : List ℕ) → all_good (items paper n s) ≡ true → AllSound n (entries_of n (items paper n s))
   olds_sound s g =
@@ -97,7 +99,7 @@ module _ (n : ℕ) where
   olds_ascend last [] u = tt
   olds_ascend last (i ∷ l) u = go i.what u.0 (olds_ascend (name_of n i) l u.1)
     where
-      go : (w : Reading) → order_of last (name_in n w i.bytes) ≡ Less → Ascends (name_in n w i.bytes) (entries_of n l)
+      go : (w : Result Record Fault) → order_of last (name_in n w i.bytes) ≡ Less → Ascends (name_in n w i.bytes) (entries_of n l)
           → Ascends last (decoded w (λ r. entry_of n i.bytes r ∷ entries_of n l) (λ f. entries_of n l))
-      go (Good r) up rest = (up, rest)
-      go (Bad f) up rest = absurd (none_smaller last up)
+      go (Ok r) up rest = (up, rest)
+      go (Err f) up rest = absurd (none_smaller last up)

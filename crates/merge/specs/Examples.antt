@@ -1,14 +1,14 @@
 -- Document 01's worked merge, and a small case of each other outcome that small inputs reach.
-use Rattle.std.specs.Prelude.{List, [], ◌∷◌, ◌++◌, ℕ, length, replicate}
+use Rattle.std.specs.Prelude.{List, [], ◌∷◌, ◌++◌, ℕ, length, replicate, Result, Ok, Err}
 use Rattle.decode.specs.declared.reference.Fault.TheVariants.{Id}
 use Rattle.header.specs.Header.{mark}
 use Rattle.lines.specs.Lines.{header_line}
-use Rattle.merge.specs.declared.Merged.{Merged}
 use Rattle.checks.specs.declared.Refusal.TheVariants.{BadHeader, BadRecord, Unsorted}
 use Rattle.edit.specs.declared.EditFault.TheVariants.{Malformed, BadName}
 use Rattle.edits.specs.declared.list.ListFault.TheVariants.{BadEdit, TooMany}
-use Rattle.merge.specs.declared.Merged.TheVariants.{Done, UnknownKind, TooLarge, BadList, ShortIndex, Twins, Refused, NothingToDo, NoRecord, ShortOutput}
 use Rattle.merge.specs.Merge.{merge_answer, merge_number, index_answer, output_after}
+use Rattle.merge.specs.declared.NotMerged.{NotMerged}
+use Rattle.merge.specs.declared.NotMerged.TheVariants.{BadList, NoRecord, NothingToDo, Refused, ShortIndex, ShortOutput, TooLarge, Twins, UnknownKind}
 
 -- what is lent to a merge, its answer and the paper's number for it, and the index and the output afterwards
 pub record Case : Type 0 where
@@ -17,7 +17,7 @@ pub record Case : Type 0 where
   pub edits : List ℕ
   pub index : List ℕ
   pub out : List ℕ
-  pub answer : Merged
+  pub answer : Result ℕ NotMerged
   pub number : ℕ
   pub index_then : List ℕ
   pub out_then : List ℕ
@@ -89,7 +89,7 @@ abbrev pub lengths : List ℕ
 lengths = length header_line ∷ length old_file ∷ length (delete 99) ∷ length two_edits ∷ length new_bytes ∷ []
 
 -- "Index 10, 0"; an entry behind them stays as it was, which is 7
-abbrev pub worked : List ℕ → Merged → ℕ → List ℕ → Case
+abbrev pub worked : List ℕ → Result ℕ NotMerged → ℕ → List ℕ → Case
 worked out answer number out_then =
     record {
       kind = 1;
@@ -114,14 +114,14 @@ done kind old edits index index_then len new =
       edits = edits;
       index = index;
       out = replicate len 0;
-      answer = Done len;
+      answer = Ok len;
       number = 0;
       index_then = index_then;
       out_then = new;
     }
 
 -- one that is refused: an output of one byte stays as it was
-abbrev pub refused : ℕ → List ℕ → List ℕ → List ℕ → List ℕ → Merged → ℕ → Case
+abbrev pub refused : ℕ → List ℕ → List ℕ → List ℕ → List ℕ → Result ℕ NotMerged → ℕ → Case
 refused kind old edits index index_then answer number =
     record {
       kind = kind;
@@ -138,9 +138,9 @@ refused kind old edits index index_then answer number =
 abbrev pub cases : List Case
 cases =
     -- "New, 146 bytes"; "Output of 145: number 12, output unchanged"; of 147: "output behind it is unchanged"
-    worked (replicate 146 5) (Done 146) 0 new_bytes
-    ∷ worked (replicate 145 5) ShortOutput 12 (replicate 145 5)
-    ∷ worked (replicate 147 5) (Done 146) 0 (new_bytes ++ 5 ∷ [])
+    worked (replicate 146 5) (Ok 146) 0 new_bytes
+    ∷ worked (replicate 145 5) (Err ShortOutput) 12 (replicate 145 5)
+    ∷ worked (replicate 147 5) (Ok 146) 0 (new_bytes ++ 5 ∷ [])
     -- a file of CR LF lines comes out with LF; `A*` of the old file stays, raw bytes 170 become `a*`
     ∷ done 1 (mark ++ (crlf ++ (ref_line 40 65 97 crlf ++ peel_line 40 51 crlf))) (update 98 (replicate 20 170)) (7 ∷ []) (0 ∷ []) 188
     (header_line ++ (ref_line 40 65 97 lf ++ (peel_line 40 51 lf ++ ref_line 40 97 98 lf)))
@@ -148,31 +148,31 @@ cases =
     ∷ done 2 [] (update_peeled 97 (replicate 32 68) (replicate 32 51)) (7 ∷ []) (0 ∷ []) 186
     (header_line ++ (ref_line 64 52 97 lf ++ peel_line 64 51 lf))
     -- 1 comes first, though the edit list is malformed, too
-    ∷ refused 3 [] (3 ∷ []) (7 ∷ []) (7 ∷ []) UnknownKind 1
+    ∷ refused 3 [] (3 ∷ []) (7 ∷ []) (7 ∷ []) (Err UnknownKind) 1
     -- 7 and 8 with the edit's start, before the index is seen to be short
-    ∷ refused 1 [] (delete 97 ++ 3 ∷ []) [] [] (BadList (BadEdit 10 Malformed)) 7
-    ∷ refused 1 [] (delete 97 ++ 0 ∷ 0 ∷ []) [] [] (BadList (BadEdit 10 BadName)) 8
+    ∷ refused 1 [] (delete 97 ++ 3 ∷ []) [] [] (Err (BadList (BadEdit 10 Malformed))) 7
+    ∷ refused 1 [] (delete 97 ++ 0 ∷ 0 ∷ []) [] [] (Err (BadList (BadEdit 10 BadName))) 8
     -- 10: an index of one for two edits is unchanged, and that they are of one name is not seen
-    ∷ refused 1 [] (delete 97 ++ delete 97) (7 ∷ []) (7 ∷ []) ShortIndex 10
+    ∷ refused 1 [] (delete 97 ++ delete 97) (7 ∷ []) (7 ∷ []) (Err ShortIndex) 10
     -- 11 tells the second place of the first equal pair, here of the edits of `b`; from it on the index is filled. `#` is not seen
-    ∷ refused 1 (35 ∷ []) (delete 98 ++ (delete 97 ++ delete 98)) (7 ∷ 7 ∷ 7 ∷ []) (10 ∷ 0 ∷ 20 ∷ []) (Twins 20) 11
+    ∷ refused 1 (35 ∷ []) (delete 98 ++ (delete 97 ++ delete 98)) (7 ∷ 7 ∷ 7 ∷ []) (10 ∷ 0 ∷ 20 ∷ []) (Err (Twins 20)) 11
     -- 2 with the length of its text: `#x` CR LF
-    ∷ refused 1 (35 ∷ 120 ∷ crlf) (delete 97) (7 ∷ []) (0 ∷ []) (Refused (BadHeader 2)) 2
+    ∷ refused 1 (35 ∷ 120 ∷ crlf) (delete 97) (7 ∷ []) (0 ∷ []) (Err (Refused (BadHeader 2))) 2
     -- 41 and 6 with the item's place in the file, though there are deletes alone: `x` LF behind a record; `a` behind `b`
-    ∷ refused 1 (ref_line 40 49 97 lf ++ 120 ∷ lf) (delete 98) (7 ∷ []) (0 ∷ []) (Refused (BadRecord 50 Id)) 41
-    ∷ refused 1 (ref_line 40 49 98 lf ++ ref_line 40 49 97 lf) (delete 99) (7 ∷ []) (0 ∷ []) (Refused (Unsorted 50)) 6
+    ∷ refused 1 (ref_line 40 49 97 lf ++ 120 ∷ lf) (delete 98) (7 ∷ []) (0 ∷ []) (Err (Refused (BadRecord 50 Id))) 41
+    ∷ refused 1 (ref_line 40 49 98 lf ++ ref_line 40 49 97 lf) (delete 99) (7 ∷ []) (0 ∷ []) (Err (Refused (Unsorted 50))) 6
     -- 13: deletes alone of absent names, one before and one behind the record; no edits; an empty old file and a delete
-    ∷ refused 1 (ref_line 40 49 98 lf) (delete 99 ++ delete 97) (7 ∷ 7 ∷ []) (10 ∷ 0 ∷ []) NothingToDo 13
-    ∷ refused 1 (ref_line 40 49 98 lf) [] [] [] NothingToDo 13
-    ∷ refused 1 [] (delete 97) (7 ∷ []) (0 ∷ []) NothingToDo 13
+    ∷ refused 1 (ref_line 40 49 98 lf) (delete 99 ++ delete 97) (7 ∷ 7 ∷ []) (10 ∷ 0 ∷ []) (Err NothingToDo) 13
+    ∷ refused 1 (ref_line 40 49 98 lf) [] [] [] (Err NothingToDo) 13
+    ∷ refused 1 [] (delete 97) (7 ∷ []) (0 ∷ []) (Err NothingToDo) 13
     -- 14: a delete of the only record
-    ∷ refused 1 (ref_line 40 49 97 lf) (delete 97) (7 ∷ []) (0 ∷ []) NoRecord 14
+    ∷ refused 1 (ref_line 40 49 97 lf) (delete 97) (7 ∷ []) (0 ∷ []) (Err NoRecord) 14
     ∷ []
 
 -- ---- the numbers of the two outcomes that only long inputs reach: 4,097 edits, and more than 1,073,741,824 bytes
 
 pub record LongInput : Type 0 where
-  pub outcome : Merged
+  pub outcome : Result ℕ NotMerged
   pub number : ℕ
 
 abbrev pub numbered : List LongInput → List LongInput
@@ -180,4 +180,4 @@ numbered [] = []
 numbered (c ∷ l) = record { outcome = c.outcome; number = merge_number c.outcome } ∷ numbered l
 
 abbrev pub long_inputs : List LongInput
-long_inputs = record { outcome = BadList (TooMany 0); number = 9 } ∷ record { outcome = TooLarge; number = 17 } ∷ []
+long_inputs = record { outcome = Err (BadList (TooMany 0)); number = 9 } ∷ record { outcome = Err TooLarge; number = 17 } ∷ []

@@ -1,5 +1,5 @@
 -- The merge: what it answers, the new file, and the lent memory afterwards.
-use Rattle.std.specs.Prelude.{Bool, true, false, not, ◌&&◌, ◌||◌, List, [], ◌∷◌, ◌++◌, ℕ, eqb, ltb, length, drop}
+use Rattle.std.specs.Prelude.{Bool, true, false, not, ◌&&◌, ◌||◌, List, [], ◌∷◌, ◌++◌, ℕ, eqb, ltb, length, drop, Result, Ok, Err}
 use Rattle.parse.specs.Choice.{if}
 use Rattle.class.specs.Class.{Classes, paper}
 use Rattle.parse.specs.Limit.{admission, admit}
@@ -7,18 +7,19 @@ use Rattle.compare.specs.Order.{order_of, by_order}
 use Rattle.header.specs.Header.{header_of, headed}
 use Rattle.decode.specs.Entry.{Entry}
 use Rattle.iter.specs.Entries.{entries_of}
-use Rattle.checks.specs.declared.Verdict.{Verdict}
-use Rattle.checks.specs.declared.Verdict.TheVariants as verdict
 use Rattle.checks.specs.Check.{check_of, refusal_number}
 use Rattle.iter.specs.Items.{items}
 use Rattle.compare.specs.Prefix.{same}
-use Rattle.edits.specs.declared.list.Prepared.{Prepared}
-use Rattle.edits.specs.declared.list.Prepared.TheVariants as prepared
 use Rattle.edits.specs.List.{edits_of, places_of, in_order, prepared_of, index_after, list_fault_number}
-use Rattle.merge.specs.declared.Merged.{Merged}
-use Rattle.merge.specs.declared.Merged.TheVariants.{Done, UnknownKind, TooLarge, BadList, ShortIndex, Twins, Refused, NothingToDo, NoRecord, ShortOutput}
 use Rattle.lines.specs.Lines.{header_line, file_of}
 use Rattle.merge.specs.Override.{Override, edits_at}
+use Rattle.checks.specs.declared.Refusal.{Refusal}
+use Rattle.edits.specs.declared.list.NotPrepared.{NotPrepared}
+use Rattle.edits.specs.declared.list.NotPrepared.TheVariants as list
+use Rattle.parse.specs.declared.limit.NotAdmitted.{NotAdmitted}
+use Rattle.parse.specs.declared.limit.NotAdmitted.TheVariants as admission-is
+use Rattle.merge.specs.declared.NotMerged.{NotMerged}
+use Rattle.merge.specs.declared.NotMerged.TheVariants.{BadList, NoRecord, NothingToDo, Refused, ShortIndex, ShortOutput, TooLarge, Twins, UnknownKind}
 
 -- ---- the new records
 
@@ -47,44 +48,55 @@ unfoldable pub new_file : List Entry → List Override → List ℕ
 new_file olds edits = file_of header_line (overridden olds edits)
 
 -- "13, 14, 12": nothing to do; no record remains; the new file is longer than the output
-unfoldable pub finished : List Entry → List Override → ℕ → Merged
+unfoldable pub finished : List Entry → List Override → ℕ → Result ℕ NotMerged
 finished olds edits room =
-    if (is_idle olds edits) NothingToDo
-    (if (eqb (length (overridden olds edits)) 0) NoRecord
-    (if (ltb room (length (new_file olds edits))) ShortOutput (Done (length (new_file olds edits)))))
+    if (is_idle olds edits) (Err NothingToDo)
+    (if (eqb (length (overridden olds edits)) 0) (Err NoRecord)
+    (if (ltb room (length (new_file olds edits))) (Err ShortOutput) (Ok (length (new_file olds edits)))))
 
 -- ---- what an answer means for the output
 
 -- the paper's number for each case
-abbrev pub merge_number : Merged → ℕ
-merge_number (Done len) = 0
-merge_number UnknownKind = 1
-merge_number TooLarge = 17
-merge_number (BadList why) = list_fault_number why
-merge_number ShortIndex = 10
-merge_number (Twins place) = 11
-merge_number (Refused why) = refusal_number why
-merge_number NothingToDo = 13
-merge_number NoRecord = 14
-merge_number ShortOutput = 12
+abbrev pub merge_number : Result ℕ NotMerged → ℕ
+merge_number (Ok len) = 0
+merge_number (Err UnknownKind) = 1
+merge_number (Err TooLarge) = 17
+merge_number (Err (BadList why)) = list_fault_number why
+merge_number (Err ShortIndex) = 10
+merge_number (Err (Twins place)) = 11
+merge_number (Err (Refused why)) = refusal_number why
+merge_number (Err NothingToDo) = 13
+merge_number (Err NoRecord) = 14
+merge_number (Err ShortOutput) = 12
 
 -- "A refused merge leaves the output untouched"; "The answer gives the length; output behind it is unchanged": 0 alone writes the new file
-abbrev pub output_by : List ℕ → List ℕ → Merged → List ℕ
+abbrev pub output_by : List ℕ → List ℕ → Result ℕ NotMerged → List ℕ
 output_by new out answer = if (eqb (merge_number answer) 0) (new ++ drop (length new) out) out
 
 -- ---- the answer
 
+-- the refusals of the call and of the list, as the merge gives them
+abbrev pub not_admitted : NotAdmitted → NotMerged
+not_admitted admission-is.UnknownKind = UnknownKind
+not_admitted admission-is.TooLarge = TooLarge
+
+abbrev pub not_prepared : NotPrepared → NotMerged
+not_prepared (list.BadList why) = BadList why
+not_prepared list.ShortIndex = ShortIndex
+not_prepared (list.Twins place) = Twins place
+not_prepared list.TooLarge = TooLarge
+
 -- "2, 4/6 by place", where document 02 has 41 to 45 for 4; these are the old records
-abbrev pub judged_by : List Entry → List Override → ℕ → Verdict → Merged
-judged_by olds edits room (verdict.Clean count) = finished olds edits room
-judged_by olds edits room (verdict.Refused why) = Refused why
+abbrev pub judged_by : List Entry → List Override → ℕ → Result ℕ Refusal → Result ℕ NotMerged
+judged_by olds edits room (Ok count) = finished olds edits room
+judged_by olds edits room (Err why) = Err (Refused why)
 
 module _ (byte : Classes) (n : ℕ) (file : List ℕ) where
   -- what the records behind the old file's header say: "old ids as read"
   unfoldable pub old_entries : List Entry
   old_entries = headed (header_of byte file) (λ h. entries_of n (items byte n (drop h.body file))) (λ text. [])
 
-  unfoldable pub judged : List Override → ℕ → Merged
+  unfoldable pub judged : List Override → ℕ → Result ℕ NotMerged
   judged edits room = judged_by old_entries edits room (check_of byte n file)
 
   module _ (list : List ℕ) where
@@ -93,23 +105,20 @@ module _ (byte : Classes) (n : ℕ) (file : List ℕ) where
     edits_in_order = edits_at n list (in_order list (places_of (edits_of byte n list)))
 
     -- "7/8/9 by place, 10, 11"
-    abbrev pub listed : ℕ → Prepared → Merged
-    listed room (prepared.Ready k) = judged edits_in_order room
-    listed room (prepared.BadList why) = BadList why
-    listed room prepared.ShortIndex = ShortIndex
-    listed room (prepared.Twins place) = Twins place
-    listed room prepared.TooLarge = TooLarge
+    abbrev pub listed : ℕ → Result ℕ NotPrepared → Result ℕ NotMerged
+    listed room (Ok k) = judged edits_in_order room
+    listed room (Err why) = Err (not_prepared why)
 
-    unfoldable pub merge_of : ℕ → ℕ → Merged
+    unfoldable pub merge_of : ℕ → ℕ → Result ℕ NotMerged
     merge_of indexRoom room = listed room (prepared_of byte n list indexRoom)
 
     unfoldable pub output_of : ℕ → List ℕ → List ℕ
     output_of indexRoom out = output_by (new_file old_entries edits_in_order) out (merge_of indexRoom (length out))
 
 -- "Order: 1, 17, 7/8/9 by place, 10, 11, 2, 4/6 by place, 13, 14, 12.", where document 02 has 41 to 45 for 4
-unfoldable pub merge_answer : ℕ → List ℕ → List ℕ → ℕ → ℕ → Merged
+unfoldable pub merge_answer : ℕ → List ℕ → List ℕ → ℕ → ℕ → Result ℕ NotMerged
 merge_answer kind file list indexRoom room =
-    admit (admission kind (length file) (length list)) (λ n. merge_of paper n file list indexRoom room) UnknownKind TooLarge
+    admit (admission kind (length file) (length list)) (λ n. merge_of paper n file list indexRoom room) (Err UnknownKind) (Err TooLarge)
 
 -- ---- the lent memory afterwards
 

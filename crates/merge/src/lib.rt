@@ -9,25 +9,27 @@ ghost use Rattle.std.specs.Prelude.{◌≡◌, ◌≤◌, length, drop};
 ghost use Rattle.class.specs.Class.{paper};
 ghost use Rattle.iter.specs.Entries.{entries_of};
 ghost use Rattle.checks.specs.Check.{judge_body};
+ghost use Rattle.checks.specs.declared.Refusal.TheVariants.{BadHeader};
 ghost use Rattle.iter.specs.Items.{items};
 ghost use Rattle.edits.specs.List.{index_after};
 ghost use Rattle.lines.specs.Lines.{header_line};
 ghost use Rattle.merge.specs.Override.{edits_at};
-ghost use Rattle.merge.specs.Merge.{merge_answer, output_after, index_answer, merge_of, output_of, output_by, new_file, old_entries, judged, judged_by};
+ghost use Rattle.merge.specs.Merge.{merge_answer, output_after, index_answer, merge_of, output_of, output_by, new_file, old_entries, judged, judged_by, not_admitted, not_prepared};
+ghost use Rattle.merge.specs.declared.NotMerged.TheVariants.{Refused};
 ghost use Rattle.runs.specs.Runs.{is_still};
 ghost use Rattle.merge.specs.Splice.{spliced_file, spliced_answer, Rising};
 
-use checks::{Refusal, Verdict};
-use edits::list::{ListFault, Prepared};
-use header::Opened;
-use parse::limit::Admission;
+use checks::Refusal;
+use edits::list::{ListFault, NotPrepared};
+use header::BadHeader;
+use parse::limit::NotAdmitted;
+use runs::Run;
 
 mod write;
 
+// Why no new file is written.
 #[derive(Clone, Copy)]
-pub enum Merged {
-    // The new file stands in the output; its length.
-    Done(usize),
+pub enum NotMerged {
     UnknownKind,
     TooLarge,
     // The first fault of the edit list.
@@ -43,17 +45,60 @@ pub enum Merged {
     ShortOutput,
 }
 
-// The old file and the edit list are lent; the index takes the edits' places in name order, the output the new file.
-pub fn merge(kind: u32, old: &[u8], list: &[u8], index: &mut [u32], out: &mut [u8]) -> Merged
+impl From<NotAdmitted> for NotMerged {
+    ghost from_gives = { λ refusal why. why ≡ not_admitted refusal };
+
+    fn from(refusal: NotAdmitted) -> NotMerged {
+        match refusal {
+            NotAdmitted::UnknownKind => NotMerged::UnknownKind,
+            NotAdmitted::TooLarge => NotMerged::TooLarge,
+        }
+    }
+}
+
+impl From<NotPrepared> for NotMerged {
+    ghost from_gives = { λ refusal why. why ≡ not_prepared refusal };
+
+    fn from(refusal: NotPrepared) -> NotMerged {
+        match refusal {
+            NotPrepared::BadList(fault) => NotMerged::BadList(fault),
+            NotPrepared::ShortIndex => NotMerged::ShortIndex,
+            NotPrepared::Twins(place) => NotMerged::Twins(place),
+            NotPrepared::TooLarge => NotMerged::TooLarge,
+        }
+    }
+}
+
+impl From<BadHeader> for NotMerged {
+    ghost from_gives = { λ bad why. why ≡ Refused (BadHeader bad.text) };
+
+    fn from(bad: BadHeader) -> NotMerged {
+        NotMerged::Refused(Refusal::from(bad))
+    }
+}
+
+impl From<Refusal> for NotMerged {
+    ghost from_gives = { λ refusal why. why ≡ Refused refusal };
+
+    fn from(refusal: Refusal) -> NotMerged {
+        NotMerged::Refused(refusal)
+    }
+}
+
+// The old file and the edit list are lent; the index takes the edits' places in name order, the output the new file, whose length is told.
+pub fn merge(
+    kind: u32,
+    old: &[u8],
+    list: &[u8],
+    index: &mut [u32],
+    out: &mut [u8],
+) -> Result<usize, NotMerged>
     ensures value { result ≡ merge_answer kind old.now list.now (length index.old) (length out.old) }
     ensures index_after { index.new ≡ index_answer kind old.now list.now index.old }
     ensures out_after { out.new ≡ output_after kind old.now list.now (length index.old) out.old }
 {
-    match parse::limit::admit(kind, old.len(), list.len()) {
-        Admission::Digits(n) => merge_with_digits(n, old, list, index, out),
-        Admission::UnknownKind => Merged::UnknownKind,
-        Admission::TooLarge => Merged::TooLarge,
-    }
+    let n = parse::limit::admit(kind, old.len(), list.len())?;
+    merge_with_digits(n, old, list, index, out)
 }
 
 // The same for ids of n digits, without a kind; an old file of any size is taken. The table of byte classes is not lent: that a CR stands only in line
@@ -64,30 +109,30 @@ pub fn merge_with_digits(
     list: &[u8],
     index: &mut [u32],
     out: &mut [u8],
-) -> Merged
+) -> Result<usize, NotMerged>
     ensures value { result ≡ merge_of paper n old.now list.now (length index.old) (length out.old) }
     ensures index_after { index.new ≡ index_after paper n list.now index.old }
     ensures out_after { out.new ≡ output_of paper n old.now list.now (length index.old) out.old }
 {
-    match edits::list::prepare(n, list, index) {
-        Prepared::Ready(k) => with_edits(n, old, list, &index[0..k], out),
-        Prepared::BadList(why) => Merged::BadList(why),
-        Prepared::ShortIndex => Merged::ShortIndex,
-        Prepared::Twins(place) => Merged::Twins(place),
-        Prepared::TooLarge => Merged::TooLarge,
-    }
+    let k = edits::list::prepare(n, list, index)?;
+    with_edits(n, old, list, &index[0..k], out)
 }
 
-// The merge once the index is ready: it holds the places of all edits in name order, and no two edits have one name.
-fn with_edits(n: usize, old: &[u8], list: &[u8], index: &[u32], out: &mut [u8]) -> Merged
+// The merge once the index is ready: it holds the places of all edits in name order, and no two edits have one name. The number of digits, the list and its
+// index stay three parameters, here and below: the clauses read each by itself, and read it off a struct they would be longer than the calls are now.
+fn with_edits(
+    n: usize,
+    old: &[u8],
+    list: &[u8],
+    index: &[u32],
+    out: &mut [u8],
+) -> Result<usize, NotMerged>
     requires { (length index.now ≤ 4096) × Rising list.now index.now }
     ensures value { result ≡ judged paper n old.now (edits_at n list.now index.now) (length out.old) }
     ensures out_after { out.new ≡ output_by (new_file (old_entries paper n old.now) (edits_at n list.now index.now)) out.old result }
 {
-    match header::open(old) {
-        Opened::Unreadable(text) => Merged::Refused(Refusal::BadHeader(text)),
-        Opened::Header(h) => behind_header(n, old, h.body, list, index, out),
-    }
+    let header = header::open(old)?;
+    behind_header(n, old, header.body, list, index, out)
 }
 
 // The merge once the header was read: the old records begin at the place `body`.
@@ -98,21 +143,19 @@ fn behind_header(
     list: &[u8],
     index: &[u32],
     out: &mut [u8],
-) -> Merged
+) -> Result<usize, NotMerged>
     requires { (length index.now ≤ 4096) × Rising list.now index.now }
     ensures value { result ≡ judged_by (entries_of n (items paper n (drop body old.now))) (edits_at n list.now index.now) (length out.old) (judge_body paper n old.now body) }
     ensures out_after { out.new ≡ output_by (new_file (entries_of n (items paper n (drop body old.now))) (edits_at n list.now index.now)) out.old result }
 {
     let mut marks = no_marks();
-    match runs::survey(n, old, body, list, index, &mut marks) {
-        Verdict::Clean(_) => finish(n, old, body, list, index, &marks, out),
-        Verdict::Refused(why) => Merged::Refused(why),
-    }
+    runs::survey(n, old, body, list, index, &mut marks)?;
+    finish(n, old, body, list, index, &marks, out)
 }
 
-// Room for the start and the end of each edit's run.
-fn no_marks() -> [usize; 8192] {
-    [0; 8192]
+// Room for each edit's run, in fixed memory: nothing here allocates.
+fn no_marks() -> [Run; 4096] {
+    [Run { start: 0, end: 0 }; 4096]
 }
 
 // The merge once the old file has passed the check and the runs are known: 13, 14 and 12, then the writing. Nothing is written before all
@@ -123,23 +166,23 @@ fn finish(
     body: usize,
     list: &[u8],
     index: &[u32],
-    marks: &[usize],
+    marks: &[Run],
     out: &mut [u8],
-) -> Merged
+) -> Result<usize, NotMerged>
     ensures value { result ≡ spliced_answer header_line (is_still list.now index.now marks.now) (spliced_file header_line n old.now list.now body index.now marks.now) (length out.old) }
     ensures out_after { out.new ≡ output_by (spliced_file header_line n old.now list.now body index.now marks.now) out.old result }
 {
     if runs::is_still(list, index, marks) {
-        return Merged::NothingToDo;
+        return Err(NotMerged::NothingToDo);
     }
     let header = lines::header();
     let len = write::write(&header, n, old, body, list, index, marks, &mut out[0..0]);
     if len == header.len() {
-        return Merged::NoRecord;
+        return Err(NotMerged::NoRecord);
     }
     if out.len() < len {
-        return Merged::ShortOutput;
+        return Err(NotMerged::ShortOutput);
     }
     write::write(&header, n, old, body, list, index, marks, out);
-    Merged::Done(len)
+    Ok(len)
 }

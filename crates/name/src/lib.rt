@@ -13,11 +13,15 @@ ghost use Rattle.name.specs.Plain.{quiet, dot_or_slash, plain_pair, plain_at};
 pub fn is_valid(s: &[u8]) -> bool
     ensures { result ≡ valid_name paper s.now }
 {
-    if is_plain(s) {
-        return true;
-    }
-    let t = class::table();
-    by_one(&t, s)
+    is_plain(s) || by_table(s)
+}
+
+// Never inlined, so that a plain name doesn't pay for the table.
+#[inline(never)]
+fn by_table(s: &[u8]) -> bool
+    ensures { result ≡ valid_name paper s.now }
+{
+    by_one(&class::table(), s)
 }
 
 // Whether a name is seen to be valid at a glance: a slash stands in it, it neither begins nor ends with a slash or a dot, it does not end with the k of
@@ -35,10 +39,7 @@ fn is_plain(s: &[u8]) -> bool
     if !begins_well | ((last == b'/') | ((last == b'.') | (last == b'k'))) {
         return false;
     }
-    if !plain_inside(s) {
-        return false;
-    }
-    has_slash(s)
+    plain_inside(s) && has_slash(s)
 }
 
 // Whether every byte but the first is plain behind the one before it: in blocks of sixteen, the last one up to the end, so that some bytes are looked at
@@ -48,12 +49,10 @@ fn plain_inside(s: &[u8]) -> bool
     ensures { result ≡ true → (k : ℕ) → k + 1 < length s.now → plain_at s.now k ≡ true }
 {
     let n = s.len();
-    let mut i = 0;
-    while 16 < n - i {
-        if !plain(s, i, 16) {
+    for i in 0..(n - 1) / 16 {
+        if !plain(s, 16 * i, 16) {
             return false;
         }
-        i += 16;
     }
     plain(s, n - 17, 16)
 }
@@ -64,15 +63,14 @@ fn plain(s: &[u8], at: usize, n: usize) -> bool
     ensures { result ≡ true → (k : ℕ) → k < n → plain_at s.now (at + k) ≡ true }
 {
     let mut all = true;
-    let mut k = 0;
-    while k < n {
-        all = all & is_plain_pair(s[at + k], s[at + k + 1]);
-        k += 1;
+    for k in 0..n {
+        all &= is_plain_pair(s[at + k], s[at + k + 1]);
     }
     all
 }
 
-// Whether b may stand behind a in any name: it is quiet, and the two are no pair of dots and slashes and no end of `.lock/`.
+// Whether b may stand behind a in any name: it is quiet, and the two are no pair of dots and slashes and no end of `.lock/`. Here and in what it asks
+// & and | join the comparisons, which are no branches then, as vector code needs it.
 fn is_plain_pair(a: u8, b: u8) -> bool
     ensures { result ≡ plain_pair a b }
 {
@@ -96,20 +94,7 @@ fn is_dot_or_slash(b: u8) -> bool
 fn has_slash(s: &[u8]) -> bool
     ensures { result ≡ true → contains slash s.now ≡ true }
 {
-    let n = s.len();
-    if 4 < n {
-        if s[4] == b'/' {
-            return true;
-        }
-    }
-    let mut at = 0;
-    while 16 <= n - at {
-        if block::among16(s, at, b'/') {
-            return true;
-        }
-        at += 16;
-    }
-    block::among16(s, at, b'/')
+    (4 < s.len() && s[4] == b'/') || s.contains(&b'/')
 }
 
 // The same byte by byte, by a table of byte classes.
@@ -119,8 +104,7 @@ fn by_one(t: &[u8; 256], s: &[u8]) -> bool
     // A name is read as if a slash stood before it, so that its first byte is judged as the first of a component.
     let mut before = b'/';
     let mut slash = false;
-    let mut i = 0;
-    while i < s.len() {
+    for i in 0..s.len() {
         let b = s[i];
         if !may_follow(t, before, b) {
             return false;
@@ -129,9 +113,8 @@ fn by_one(t: &[u8; 256], s: &[u8]) -> bool
         if (b == b'/') && lock_before(s, i) {
             return false;
         }
-        slash = slash | (b == b'/');
+        slash |= b == b'/';
         before = b;
-        i += 1;
     }
     // What is left to ask: a slash somewhere, and an end that is no slash, no dot and no `.lock`.
     slash & (before != b'/') & (before != b'.') & !lock_before(s, s.len())
@@ -164,16 +147,5 @@ fn may_follow(t: &[u8; 256], before: u8, b: u8) -> bool
 fn lock_before(s: &[u8], at: usize) -> bool
     ensures { result ≡ (leb at (length s.now) && ends dot_lock (take at s.now)) }
 {
-    if s.len() < at {
-        return false;
-    }
-    if at < 5 {
-        return false;
-    }
-    // The last letter first: most components end otherwise, and then no other is read.
-    let start = at - 5;
-    if s[start + 4] != b'k' {
-        return false;
-    }
-    (s[start] == b'.') & (s[start + 1] == b'l') & (s[start + 2] == b'o') & (s[start + 3] == b'c')
+    at <= s.len() && s[..at].ends_with(b".lock")
 }

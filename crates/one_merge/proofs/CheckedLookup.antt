@@ -10,8 +10,6 @@ use Rattle.parse.specs.Choice.{if}
 use Rattle.class.specs.Class.{paper}
 use Rattle.name.specs.Name.{valid_name}
 use Rattle.decode.specs.declared.reference.Record.{Record}
-use Rattle.decode.specs.declared.reference.Reading.{Reading}
-use Rattle.decode.specs.declared.reference.Reading.TheVariants.{Good, Bad}
 use Rattle.decode.specs.Entry.{Entry, entry_of}
 use Rattle.decode.specs.Record.{decoded}
 use Rattle.iter.specs.Entries.{entries_of}
@@ -24,6 +22,9 @@ use Rattle.find.proofs.Found.{found_exactly}
 use Rattle.compare.specs.Prefix.{same}
 use Rattle.one_merge.specs.OneMerge.{entry_named, Shows, Tells}
 use Rattle.compare.proofs.Prefixes.{same_is, same_self}
+use Rattle.std.specs.declared.result.Result.{Result}
+use Rattle.std.specs.declared.result.Result.TheVariants.{Err, Ok}
+use Rattle.decode.specs.declared.reference.Fault.{Fault}
 
 -- ---- the entry of a name among some items
 
@@ -35,7 +36,7 @@ module _ (n : ℕ) (name : List ℕ) where
     after : List Item
     all : l ≡ before ++ it ∷ after
     r : Record
-    reads : it.what ≡ Good r
+    reads : it.what ≡ Ok r
     name_is : name_of n it ≡ name
     is : entry_of n it.bytes r ≡ e
 
@@ -56,19 +57,19 @@ module _ (n : ℕ) (name : List ℕ) where
             is = x.is;
           }
 
-      go : (r : Record) → i.what ≡ Good r → (t : Bool) → same (entry_of n i.bytes r).name name ≡ t
+      go : (r : Record) → i.what ≡ Ok r → (t : Bool) → same (entry_of n i.bytes r).name name ≡ t
           → if t (some (entry_of n i.bytes r)) (entry_named name (entries_of n l)) ≡ some e
           → (entry_named name (entries_of n l) ≡ some e → HasEntry l e) → HasEntry (i ∷ l) e
       go r w true q z ih =
           record { before = []; it = i; after = l; all = refl; r = r; reads = w; name_is = rw w (sym (same_is (entry_of n i.bytes r).name name q)); is = cc }
       go r w false q z ih = behind (ih z)
 
-      first : (w : Reading) → i.what ≡ w → entry_named name (decoded w (λ r. entry_of n i.bytes r ∷ entries_of n l) (λ f. entries_of n l)) ≡ some e
+      first : (w : Result Record Fault) → i.what ≡ w → entry_named name (decoded w (λ r. entry_of n i.bytes r ∷ entries_of n l) (λ f. entries_of n l)) ≡ some e
           → (entry_named name (entries_of n l) ≡ some e → HasEntry l e) → HasEntry (i ∷ l) e
-      first (Good r) w h ih = go r w (same (entry_of n i.bytes r).name name) refl h ih
-      first (Bad f) w h ih = behind (ih h)
+      first (Ok r) w h ih = go r w (same (entry_of n i.bytes r).name name) refl h ih
+      first (Err f) w h ih = behind (ih h)
 
-  none_named : (before : List Item) (it : Item) (after : List Item) (r : Record) → it.what ≡ Good r
+  none_named : (before : List Item) (it : Item) (after : List Item) (r : Record) → it.what ≡ Ok r
       → entry_named name (entries_of n (before ++ it ∷ after)) ≡ none → name_of n it ≡ name → ⊥
   none_named [] it after r w h e =
       let f = rw (w, rw w at e, same_self name) at h in
@@ -83,9 +84,9 @@ module _ (n : ℕ) (name : List ℕ) where
       go true x z ih = let w : ◌≡◌ {A = ℕ} 0 1 = cc in omega arith
       go false x z ih = ih z e
 
-      first : (w : Reading) → entry_named name (decoded w (λ r. entry_of n b.bytes r ∷ rest) (λ f. rest)) ≡ none → (entry_named name rest ≡ none → name_of n it ≡ name → ⊥) → ⊥
-      first (Good x) z ih = go (same (entry_of n b.bytes x).name name) (entry_of n b.bytes x) z ih
-      first (Bad f) z ih = ih z e
+      first : (w : Result Record Fault) → entry_named name (decoded w (λ r. entry_of n b.bytes r ∷ rest) (λ f. rest)) ≡ none → (entry_named name rest ≡ none → name_of n it ≡ name → ⊥) → ⊥
+      first (Ok x) z ih = go (same (entry_of n b.bytes x).name name) (entry_of n b.bytes x) z ih
+      first (Err f) z ih = ih z e
 
 -- ---- in a body that passes the check
 

@@ -7,17 +7,12 @@ use lib.ListN.{drop}
 use Rattle.class.specs.Class.{paper}
 use Rattle.decode.specs.Entry.{Entry}
 use Rattle.iter.specs.Entries.{entries_of}
-use Rattle.checks.specs.declared.Verdict.{Verdict}
-use Rattle.checks.specs.declared.Verdict.TheVariants as verdict
 use Rattle.checks.specs.Check.{check_of}
 use Rattle.checks.specs.CheckMeans.{Body}
 use Rattle.iter.specs.Items.{items}
 use Rattle.checks.specs.Passes.{Passes}
 use Rattle.checks.proofs.CheckMeans.{check_means}
-use Rattle.edits.specs.declared.list.Prepared.{Prepared}
-use Rattle.edits.specs.declared.list.Prepared.TheVariants as prepared
 use Rattle.edits.specs.List.{edits_of, places_of, prepared_of}
-use Rattle.merge.specs.declared.Merged.TheVariants.{Done}
 use Rattle.lines.specs.Lines.{lines_of_all}
 use Rattle.merge.specs.Override.{Override}
 use Rattle.merge.specs.Merge.{overridden, new_file, old_entries, edits_in_order, judged_by, judged, listed, merge_of}
@@ -29,6 +24,11 @@ use Rattle.one_merge.proofs.Overriding.{mixed}
 use Rattle.one_merge.proofs.WrittenFile.{passes, lookup}
 use Rattle.one_merge.proofs.WrittenHeader.{written_header}
 use Rattle.one_merge.proofs.WrittenItems.{entries_back}
+use Rattle.checks.specs.declared.Refusal.{Refusal}
+use Rattle.std.specs.declared.result.Result.{Result}
+use Rattle.std.specs.declared.result.Result.TheVariants.{Err, Ok}
+use Rattle.edits.specs.declared.list.NotPrepared.{NotPrepared}
+use Rattle.edits.specs.declared.list.NotPrepared.TheVariants.{BadList, ShortIndex, TooLarge, Twins}
 
 -- ---- the new file, where the old records and the edits are sound and rise
 
@@ -50,31 +50,31 @@ module _ (n : ℕ) (digits : 0 < n) (olds : List Entry) (edits : List Override) 
 module _ (n : ℕ) (file list : List ℕ) (indexRoom : ℕ) where
   record Admitted : Type 0 where
     k : ℕ
-    ready : prepared_of paper n list indexRoom ≡ prepared.Ready k
+    ready : prepared_of paper n list indexRoom ≡ Ok k
     count : ℕ
-    clean : check_of paper n file ≡ verdict.Clean count
+    clean : check_of paper n file ≡ Ok count
 
-  done_admitted : (room : ℕ) {len : ℕ} → merge_of paper n file list indexRoom room ≡ Done len → Admitted
+  done_admitted : (room : ℕ) {len : ℕ} → merge_of paper n file list indexRoom room ≡ Ok len → Admitted
   unfolding merge_of judged
   done_admitted room {len} e = go (prepared_of paper n list indexRoom) refl e
     where
-      by_verdict : (k : ℕ) → prepared_of paper n list indexRoom ≡ prepared.Ready k → (v : Verdict) → check_of paper n file ≡ v
-          → judged_by (old_entries paper n file) (edits_in_order paper n file list) room v ≡ Done len → Admitted
-      by_verdict k p (verdict.Clean count) q e = record { k = k; ready = p; count = count; clean = q }
-      by_verdict k p (verdict.Refused why) q e = absurd (let z : ◌≡◌ {A = ℕ} 0 1 = cc in omega arith)
+      by_verdict : (k : ℕ) → prepared_of paper n list indexRoom ≡ Ok k → (v : Result ℕ Refusal) → check_of paper n file ≡ v
+          → judged_by (old_entries paper n file) (edits_in_order paper n file list) room v ≡ Ok len → Admitted
+      by_verdict k p (Ok count) q e = record { k = k; ready = p; count = count; clean = q }
+      by_verdict k p (Err why) q e = absurd (let z : ◌≡◌ {A = ℕ} 0 1 = cc in omega arith)
 
-      go : (p : Prepared) → prepared_of paper n list indexRoom ≡ p → listed paper n file list room p ≡ Done len → Admitted
-      go (prepared.Ready k) q e = by_verdict k q (check_of paper n file) refl e
-      go (prepared.BadList why) q e = absurd (let z : ◌≡◌ {A = ℕ} 0 1 = cc in omega arith)
-      go prepared.ShortIndex q e = absurd (let z : ◌≡◌ {A = ℕ} 0 1 = cc in omega arith)
-      go (prepared.Twins place) q e = absurd (let z : ◌≡◌ {A = ℕ} 0 1 = cc in omega arith)
-      go prepared.TooLarge q e = absurd (let z : ◌≡◌ {A = ℕ} 0 1 = cc in omega arith)
+      go : (p : Result ℕ NotPrepared) → prepared_of paper n list indexRoom ≡ p → listed paper n file list room p ≡ Ok len → Admitted
+      go (Ok k) q e = by_verdict k q (check_of paper n file) refl e
+      go (Err (BadList why)) q e = absurd (let z : ◌≡◌ {A = ℕ} 0 1 = cc in omega arith)
+      go (Err ShortIndex) q e = absurd (let z : ◌≡◌ {A = ℕ} 0 1 = cc in omega arith)
+      go (Err (Twins place)) q e = absurd (let z : ◌≡◌ {A = ℕ} 0 1 = cc in omega arith)
+      go (Err TooLarge) q e = absurd (let z : ◌≡◌ {A = ℕ} 0 1 = cc in omega arith)
 
 -- ---- so the old records are sound and rise
 
-module _ (n : ℕ) (file : List ℕ) (count : ℕ) (clean : check_of paper n file ≡ verdict.Clean count) where
+module _ (n : ℕ) (file : List ℕ) (count : ℕ) (clean : check_of paper n file ≡ Ok count) where
   body : Body paper n file (λ begin l. Passes n l count)
-  body = (check_means paper n file (verdict.Clean count)).0 clean
+  body = (check_means paper n file (Ok count)).0 clean
 
   olds_are : old_entries paper n file ≡ entries_of n (items paper n (drop body.header.body file))
   unfolding old_entries

@@ -4,8 +4,6 @@ use mathlib.Core.Bool.{Bool, true, false}
 use mathlib.Core.List.{List, [], ◌∷◌, ◌++◌}
 use mathlib.Core.Option.{Option, none, some}
 use Prim.Native.Nat.{ℕ}
-use Rattle.compare.specs.declared.order.Order.{Order}
-use Rattle.compare.specs.declared.order.Order.TheVariants.{Less, Equal, Greater}
 use Rattle.parse.specs.Choice.{if}
 use Rattle.compare.specs.Order.{order_of}
 use Rattle.compare.proofs.Orders.{order_equal, greater_flip, less_trans}
@@ -18,6 +16,8 @@ use Rattle.merge.specs.Merge.{overridden}
 use Rattle.one_merge.specs.OneMerge.{entry_named, left_by, after_edits}
 use Rattle.merge.proofs.Entries.{Sound, AllSound, Ascends, AllOf, Rises}
 use Rattle.merge.proofs.InOrder.{same_greater, lower}
+use Rattle.std.specs.declared.cmp.Ordering.{Ordering}
+use Rattle.std.specs.declared.cmp.Ordering.TheVariants.{Equal, Greater, Less}
 
 -- ---- what begins behind a name holds no record and no edit of it
 
@@ -103,7 +103,7 @@ module _ (n : ℕ) where
       (λ h. mixed e.name rs es s.1 h v.2)
       (λ h. mixed e.name (r ∷ rs) es s h v.2)
     where
-      go : (o : Order) → order_of r.name e.name ≡ o
+      go : (o : Ordering) → order_of r.name e.name ≡ o
           → (Rises n r.name (e ∷ es) → Mixed r.name rs (e ∷ es) (overridden rs (e ∷ es)))
           → (Ascends e.name rs → Mixed e.name rs es (overridden rs es))
           → (Ascends e.name (r ∷ rs) → Mixed e.name (r ∷ rs) es (overridden (r ∷ rs) es))

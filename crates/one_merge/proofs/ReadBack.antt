@@ -11,7 +11,6 @@ use lib.Seq.{take_at, take-append_seam}
 use Rattle.class.specs.Class.{paper}
 use Rattle.name.specs.Name.{valid_name}
 use Rattle.decode.specs.declared.reference.Record.{Record}
-use Rattle.decode.specs.declared.reference.Reading.TheVariants.{Good}
 use Rattle.decode.specs.Entry.{Entry, peeled_id, entry_of}
 use Rattle.decode.specs.Record.{record_of}
 use Rattle.decode.proofs.Records.{good_alike, head_len, peel_len, Peel, plain_is, peeled_is}
@@ -19,11 +18,14 @@ use Rattle.iter.specs.Items.{Item, name_of}
 use Rattle.lines.specs.Lines.{record_line, peeled_line, peeled_lines, lines_of}
 use Rattle.merge.proofs.Entries.{Digits, DigitsIf, Sound}
 use Rattle.one_merge.proofs.WrittenLines.{behind, line_then, name_len_lem, line_head, head_len_lem, behind_head, byte_behind, line_peel, peel_len_lem}
+use Rattle.std.specs.declared.option.Option as std
+use Rattle.std.specs.declared.option.Option.TheVariants.{None, Some}
+use Rattle.std.specs.declared.result.Result.TheVariants.{Ok}
 
 -- where the peeled id stands behind a first line of some length: behind the `^`
-abbrev pub peeled_place : ℕ → Option (List ℕ) → ℕ
-peeled_place first none = 0
-peeled_place first (some id) = suc first
+abbrev pub peeled_place : ℕ → Option (List ℕ) → std.Option ℕ
+peeled_place first none = None
+peeled_place first (some id) = Some (suc first)
 
 -- what the lines of an entry read as, and the item that they are
 abbrev pub reading_of : Entry → Record
@@ -35,7 +37,7 @@ reading_of e =
     }
 
 abbrev pub written : Entry → Item
-written e = record { what = Good (reading_of e); bytes = lines_of e }
+written e = record { what = Ok (reading_of e); bytes = lines_of e }
 
 -- a first line, and any bytes behind it
 laid : (id name t : List ℕ) → record_line id name ++ t ≡ line_then id name t
@@ -48,7 +50,7 @@ module _ {n : ℕ} {id : List ℕ} (digits : Digits n id) (name : List ℕ) (val
   first_len = omega (arith, length-append id (32 ∷ (name ++ 10 ∷ [])), length-append name (10 ∷ []), digits.long)
 
   read_plain : (rest : List ℕ) → (get_or rest 0 0 ≡ 94 → ⊥)
-      → record_of paper n (record_line id name ++ rest) ≡ Good (record { name_len = length name; peeled = 0; size = length (record_line id name) })
+      → record_of paper n (record_line id name ++ rest) ≡ Ok (record { name_len = length name; peeled = None; size = length (record_line id name) })
   read_plain rest other =
       ap (record_of paper n) (laid id name rest)
       ∙ plain_is paper n (line_then id name rest) (line_head digits name valid rest) (λ z. other (sym (byte_behind digits name valid rest) ∙ z))
@@ -73,22 +75,22 @@ module _ {n : ℕ} {id : List ℕ} (digits : Digits n id) (name : List ℕ) (val
         (omega (arith, peel_len_lem more rest, length-append peeled_id_lem (10 ∷ []), more.long))
 
     read_peeled : record_of paper n (record_line id name ++ second)
-        ≡ Good (record { name_len = length name; peeled = suc (length (record_line id name)); size = length (record_line id name) + length (peeled_line peeled_id_lem) })
+        ≡ Ok (record { name_len = length name; peeled = Some (suc (length (record_line id name))); size = length (record_line id name) + length (peeled_line peeled_id_lem) })
     read_peeled =
         let h : head_len paper n both ≡ length (record_line id name) = omega (arith, head_len_lem digits name valid second, first_len) in
         ap (record_of paper n) (laid id name second)
         ∙ peeled_is paper n both (line_head digits name valid second) (byte_behind digits name valid second) peel
-        ∙ good_alike (name_len_lem digits name valid second) (ap suc h) (omega (arith, second_len))
+        ∙ good_alike (name_len_lem digits name valid second) (ap Some (ap suc h)) (omega (arith, second_len))
 
   read_lines : (o : Option (List ℕ)) → DigitsIf n o → (rest : List ℕ) → (get_or rest 0 0 ≡ 94 → ⊥)
       → record_of paper n ((record_line id name ++ peeled_lines o) ++ rest)
-      ≡ Good (record { name_len = length name; peeled = peeled_place (length (record_line id name)) o; size = length (record_line id name ++ peeled_lines o) })
+      ≡ Ok (record { name_len = length name; peeled = peeled_place (length (record_line id name)) o; size = length (record_line id name ++ peeled_lines o) })
   read_lines none d rest other = rw (append-nil (record_line id name)) (read_plain rest other)
   read_lines (some peeled_id_lem) d rest other =
       rw (append_assoc (record_line id name) (peeled_line peeled_id_lem) rest, length-append (record_line id name) (peeled_line peeled_id_lem)) (read_peeled d rest)
 
 -- a record without a peeled id ends where no `^` follows
-pub read_one : (n : ℕ) (e : Entry) → Sound n e → (rest : List ℕ) → (get_or rest 0 0 ≡ 94 → ⊥) → record_of paper n (lines_of e ++ rest) ≡ Good (reading_of e)
+pub read_one : (n : ℕ) (e : Entry) → Sound n e → (rest : List ℕ) → (get_or rest 0 0 ≡ 94 → ⊥) → record_of paper n (lines_of e ++ rest) ≡ Ok (reading_of e)
 read_one n e s rest other = read_lines s.id e.name s.name e.peeled s.peeled rest other
 
 -- the lines of an entry, and any bytes behind them

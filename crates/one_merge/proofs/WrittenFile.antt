@@ -7,7 +7,6 @@ use lib.ListN.{length}
 use Rattle.class.specs.Class.{paper}
 use Rattle.name.specs.Name.{valid_name}
 use Rattle.decode.specs.Entry.{Entry}
-use Rattle.checks.specs.declared.Verdict.TheVariants.{Clean}
 use Rattle.iter.specs.Items.{items}
 use Rattle.checks.specs.Check.{check_of}
 use Rattle.checks.specs.Passes.{all_good, IsAscending, Passes}
@@ -20,6 +19,7 @@ use Rattle.merge.proofs.Entries.{AllSound, Ascends}
 use Rattle.one_merge.proofs.ReadBack.{name_back}
 use Rattle.one_merge.proofs.WrittenHeader.{written_header}
 use Rattle.one_merge.proofs.WrittenItems.{written_all, items_back, entries_back}
+use Rattle.std.specs.declared.result.Result.TheVariants.{Ok}
 
 all_good_lem : (es : List Entry) → all_good (written_all es) ≡ true
 all_good_lem [] = refl
@@ -38,7 +38,7 @@ module _ (n : ℕ) where
     pub written_passes : Passes n (items paper n (lines_of_all es)) (length es)
     written_passes = rw (items_back n es s) (record { good = all_good_lem es; up = rising [] es s up; number = count es })
 
-    pub passes : check_of paper n (header_line ++ lines_of_all es) ≡ Clean (length es)
+    pub passes : check_of paper n (header_line ++ lines_of_all es) ≡ Ok (length es)
     passes = read paper n (header_line ++ lines_of_all es) (written_header (lines_of_all es)) ∙ judges n 46 (items paper n (lines_of_all es)) written_passes
 
     pub lookup : 0 < n → (name : List ℕ) → valid_name paper name ≡ true → Tells n (lines_of_all es) name (entry_named name es)

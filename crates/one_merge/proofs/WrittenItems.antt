@@ -7,7 +7,6 @@ use native.Mathlib.Omega.{arith}
 use lib.ListN.{get_or, length, length-append}
 use lib.Seq.{take-append_seam, drop-append_seam}
 use Rattle.class.specs.Class.{paper, is_hex}
-use Rattle.decode.specs.declared.reference.Reading.TheVariants.{Good}
 use Rattle.decode.specs.Entry.{Entry}
 use Rattle.decode.specs.Record.{record_of}
 use Rattle.iter.specs.Entries.{entries_of}
@@ -16,6 +15,7 @@ use Rattle.iter.proofs.Items.{size_good, items_nil, items_step}
 use Rattle.lines.specs.Lines.{peeled_lines, lines_of, lines_of_all}
 use Rattle.merge.proofs.Entries.{Digits, Sound, AllSound}
 use Rattle.one_merge.proofs.ReadBack.{lines_then, reading_of, written, read_one, entry_back}
+use Rattle.std.specs.declared.result.Result.TheVariants.{Ok}
 
 -- ---- no entry begins with `^`, so that none is taken for the second line of the one before
 
@@ -42,7 +42,7 @@ module _ (n : ℕ) where
   items_one : (e : Entry) → Sound n e → (rest : List ℕ) → (get_or rest 0 0 ≡ 94 → ⊥) → items paper n (lines_of e ++ rest) ≡ written e ∷ items paper n rest
   items_one e s rest other =
       let all = lines_of e ++ rest in
-      let r : record_of paper n all ≡ Good (reading_of e) = read_one n e s rest other in
+      let r : record_of paper n all ≡ Ok (reading_of e) = read_one n e s rest other in
       let z : size_of paper n all ≡ length (lines_of e) = size_good paper n all (reading_of e) r in
       let some : 0 < length all =
       omega (arith, ap length (lines_then e rest), length-append e.id (32 ∷ (e.name ++ 10 ∷ (peeled_lines e.peeled ++ rest)))) in

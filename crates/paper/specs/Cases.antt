@@ -1,23 +1,23 @@
 -- Document 01's examples that are marked P: kind 1, ids of 40 digits. Each is a question, what the definitions answer, and what the
 -- document says; where document 02 changes it, what that says beside the old sentence.
-use Rattle.std.specs.Prelude.{◌≡◌, List, [], ◌∷◌, ◌++◌, map, ℕ, take, drop, replicate}
+use Rattle.std.specs.Prelude.{◌≡◌, List, [], ◌∷◌, ◌++◌, map, ℕ, take, drop, replicate, Option, Some, None, Result, Ok, Err}
 use Rattle.std.proofs.Math.Option.{none}
 use Rattle.class.specs.Class.{paper}
 use Rattle.checks.specs.Check.{check_answer, check_number, refusal_number}
-use Rattle.checks.specs.declared.CheckAnswer.{CheckAnswer}
-use Rattle.checks.specs.declared.CheckAnswer.TheVariants as checked
-use Rattle.checks.specs.declared.Verdict.TheVariants.{Clean, Refused}
 use Rattle.handed.specs.Handed.{Handed, good, error, whats}
 use Rattle.handed.specs.Iteration.{read_of, out_of}
 use Rattle.find.specs.Lookup.{lookup_answer, lookup_number}
-use Rattle.length.specs.declared.Length.{Length}
-use Rattle.length.specs.declared.Length.TheVariants.{Of, Malformed}
 use Rattle.length.specs.Length.{length_at}
 use Rattle.merge.specs.Merge.{merge_answer, merge_number}
-use Rattle.loose.specs.declared.Loose.TheVariants.{Id, Symbolic, Unreadable, BadTarget}
-use Rattle.loose.specs.declared.LooseAnswer.{LooseAnswer}
-use Rattle.loose.specs.declared.LooseAnswer.TheVariants as loosely
 use Rattle.loose.specs.Loose.{loose_answer, loose_number}
+use Rattle.checks.specs.declared.Refusal.{Refusal}
+use Rattle.length.specs.declared.Length.{Length}
+use Rattle.loose.specs.declared.Loose.{Loose}
+use Rattle.loose.specs.declared.Loose.TheVariants.{Id, Symbolic}
+use Rattle.loose.specs.declared.LooseFault.{LooseFault}
+use Rattle.loose.specs.declared.LooseFault.TheVariants.{BadTarget, Unreadable}
+use Rattle.parse.specs.declared.limit.NotAdmitted.{NotAdmitted}
+use Rattle.parse.specs.declared.limit.NotAdmitted.TheVariants.{TooLarge, UnknownKind}
 
 -- ---- what is asked, and what comes of it
 
@@ -41,23 +41,23 @@ pub data Outcome : Type 0 where
   symbolic : List ℕ → Outcome
   id : List ℕ → Outcome
 
-abbrev pub check_outcome : CheckAnswer → Outcome
-check_outcome (checked.Done (Clean k)) = count k
-check_outcome (checked.Done (Refused why)) = number (refusal_number why)
-check_outcome checked.UnknownKind = number (check_number checked.UnknownKind)
-check_outcome checked.TooLarge = number (check_number checked.TooLarge)
+abbrev pub check_outcome : Result (Result ℕ Refusal) NotAdmitted → Outcome
+check_outcome (Ok (Ok k)) = count k
+check_outcome (Ok (Err why)) = number (refusal_number why)
+check_outcome (Err UnknownKind) = number (check_number (Err UnknownKind))
+check_outcome (Err TooLarge) = number (check_number (Err TooLarge))
 
-abbrev pub length_outcome : Length → Outcome
-length_outcome (Of value next) = count value
-length_outcome Malformed = malformed
+abbrev pub length_outcome : Option Length → Outcome
+length_outcome (Some l) = count l.value
+length_outcome None = malformed
 
-abbrev pub loose_outcome : List ℕ → LooseAnswer → Outcome
-loose_outcome content (loosely.Done (Id n)) = id (take n content)
-loose_outcome content (loosely.Done (Symbolic from len)) = symbolic (take len (drop from content))
-loose_outcome content (loosely.Done Unreadable) = number (loose_number (loosely.Done Unreadable))
-loose_outcome content (loosely.Done BadTarget) = number (loose_number (loosely.Done BadTarget))
-loose_outcome content loosely.UnknownKind = number (loose_number loosely.UnknownKind)
-loose_outcome content loosely.TooLarge = number (loose_number loosely.TooLarge)
+abbrev pub loose_outcome : List ℕ → Result (Result Loose LooseFault) NotAdmitted → Outcome
+loose_outcome content (Ok (Ok (Id n))) = id (take n content)
+loose_outcome content (Ok (Ok (Symbolic from len))) = symbolic (take len (drop from content))
+loose_outcome content (Ok (Err Unreadable)) = number (loose_number (Ok (Err Unreadable)))
+loose_outcome content (Ok (Err BadTarget)) = number (loose_number (Ok (Err BadTarget)))
+loose_outcome content (Err UnknownKind) = number (loose_number (Err UnknownKind))
+loose_outcome content (Err TooLarge) = number (loose_number (Err TooLarge))
 
 -- by the definitions
 abbrev pub answered : Question → Outcome

@@ -1,11 +1,10 @@
 -- Lookup and `ask` in five small bodies, the first of them document 01's: kind 1, ids of 40 digits.
-use Rattle.std.specs.Prelude.{List, [], ◌∷◌, ◌++◌, ℕ, replicate}
+use Rattle.std.specs.Prelude.{List, [], ◌∷◌, ◌++◌, ℕ, replicate, None, Ok}
 use Rattle.class.specs.Class.{paper}
 use Rattle.decode.specs.declared.reference.Fault.TheVariants.{Id, Peeled}
 use Rattle.checks.specs.declared.Refusal.TheVariants.{BadRecord}
 use Rattle.find.specs.declared.lookup.Lookup.{Lookup}
 use Rattle.find.specs.declared.lookup.Lookup.TheVariants as lookup
-use Rattle.checks.specs.declared.Verdict.TheVariants.{Clean}
 use Rattle.ask.specs.declared.Told.{Told}
 use Rattle.ask.specs.declared.Told.TheVariants as told
 use Rattle.find.specs.Lookup.{lookup_of}
@@ -41,7 +40,7 @@ cases =
     -- a line that can't be read: never absent
     ∷ record { bytes = 120 ∷ 10 ∷ []; found = lookup.Unsure; asked = told.Refused (BadRecord 0 Id) }
     -- a record of that name, and one of another
-    ∷ record { bytes = line 97 []; found = lookup.Charted 0 (record { name_len = 8; peeled = 0; size = 50 }); asked = told.Charted 0 (record { name_len = 8; peeled = 0; size = 50 }) (Clean 1) }
+    ∷ record { bytes = line 97 []; found = lookup.Charted 0 (record { name_len = 8; peeled = None; size = 50 }); asked = told.Charted 0 (record { name_len = 8; peeled = None; size = 50 }) (Ok 1) }
     ∷ record { bytes = line 98 []; found = lookup.Absent; asked = told.Absent }
     -- a bad `^` line spoils the record before it: a hit gives 45 with its place
     ∷ record { bytes = line 97 (94 ∷ 122 ∷ 122 ∷ 10 ∷ []); found = lookup.BadRecord 0 Peeled; asked = told.Refused (BadRecord 0 Peeled) }

@@ -3,4 +3,5 @@ pub mod Fronts
 pub mod Lines
 pub mod Runs
 pub mod Slices
+pub mod Stops
 pub mod Views

@@ -4,3 +4,4 @@
 pub mod limit;
 pub mod line;
 pub mod part;
+pub mod scan;

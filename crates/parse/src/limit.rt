@@ -2,23 +2,16 @@
 ghost use Rattle.std.specs.Prelude.{◌≡◌};
 ghost use Rattle.parse.specs.Limit.{digits_of, over_limit, admission};
 
-// How many hex digits an id of a kind has.
-#[derive(Clone, Copy)]
-pub enum IdKind {
-    Digits(usize),
-    Unknown,
-}
-
-pub fn digits(kind: u32) -> IdKind
+// How many hex digits an id of a kind has, where there is such a kind. A kind is a number as C gives it, here and in all that asks this first: any number is
+// answered, and one that is no kind is the refusal 1.
+pub fn digits(kind: u32) -> Option<usize>
     ensures { result ≡ digits_of kind }
 {
-    if kind == 1 {
-        return IdKind::Digits(40);
+    match kind {
+        1 => Some(40),
+        2 => Some(64),
+        _ => None,
     }
-    if kind == 2 {
-        return IdKind::Digits(64);
-    }
-    IdKind::Unknown
 }
 
 // Whether a lent input of this size is refused.
@@ -28,26 +21,26 @@ pub fn over_limit(size: usize) -> bool
     1_073_741_824 < size
 }
 
-// What every operation asks first: the digits of an id, or the refusal.
+// An input over the size limit, where no kind is asked.
 #[derive(Clone, Copy)]
-pub enum Admission {
-    Digits(usize),
-    UnknownKind,
-    TooLarge,
+pub struct TooLarge;
+
+// Why an operation is not begun, by its number.
+#[derive(Clone, Copy)]
+pub enum NotAdmitted {
+    UnknownKind = 1,
+    TooLarge = 17,
 }
 
-// The admission of an operation that is lent two inputs of these sizes; an operation with one input gives 0 for the other.
-pub fn admit(kind: u32, size: usize, other: usize) -> Admission
+// What every operation asks first: the digits of an id, for an operation that is lent two inputs of these sizes; one with one input gives 0 for the other.
+pub fn admit(kind: u32, size: usize, other: usize) -> Result<usize, NotAdmitted>
     ensures { result ≡ admission kind size other }
 {
-    let IdKind::Digits(n) = digits(kind) else {
-        return Admission::UnknownKind;
+    let Some(n) = digits(kind) else {
+        return Err(NotAdmitted::UnknownKind);
     };
-    if over_limit(size) {
-        return Admission::TooLarge;
+    if over_limit(size) || over_limit(other) {
+        return Err(NotAdmitted::TooLarge);
     }
-    if over_limit(other) {
-        return Admission::TooLarge;
-    }
-    Admission::Digits(n)
+    Ok(n)
 }

@@ -3,110 +3,66 @@ ghost use Rattle.std.specs.Prelude.{◌≡◌, ◌+◌, drop};
 ghost use Rattle.class.specs.Class.{paper};
 ghost use Rattle.parse.specs.Line.{newline_at, text_len, text_at, line_len};
 
-use crate::part::Past;
+use crate::scan;
 
-// Text that ends in a line end: where the text ends, and the place behind the line end; or no such text.
+// Text that ends in a line end.
 #[derive(Clone, Copy)]
-pub enum Text {
-    Ended { end: usize, next: usize },
-    Unended,
+pub struct Text {
+    // Where the text ends.
+    pub end: usize,
+    // The place behind the line end.
+    pub next: usize,
 }
 
 // The place behind the LF or CR LF that stands at a place.
-pub fn newline(s: &[u8], at: usize) -> Past
+#[tactic(auto, using(crate::proofs::Lines::newlines))]
+pub fn newline(s: &[u8], at: usize) -> Option<usize>
     ensures { result ≡ newline_at s.now at }
 {
     if s.len() <= at {
-        return Past::Unread;
+        return None;
     }
     if s[at] == b'\n' {
-        return Past::At(at + 1);
+        return Some(at + 1);
     }
     if s[at] != b'\r' {
-        return Past::Unread;
+        return None;
     }
     if s.len() - at < 2 {
-        return Past::Unread;
+        return None;
     }
     if s[at + 1] != b'\n' {
-        return Past::Unread;
+        return None;
     }
-    Past::At(at + 2)
+    Some(at + 2)
 }
 
-// The place of the first CR or LF from a place on, or the end; the place itself where that is beyond the end. Eight bytes a step while none of them is low.
+// The place of the first CR or LF from a place on, or the end; the place itself where that is beyond the end.
 pub(crate) fn text_end(s: &[u8], at: usize) -> usize
     ensures { result ≡ at + text_len paper (drop at s.now) }
 {
-    let mut i = at;
-    loop {
-        let n = word::first_low(s, i);
-        if n < 8 {
-            if class::is_cr_or_lf(s[i + n]) {
-                return i + n;
-            }
-            break;
-        }
-        if 8 < n {
-            break;
-        }
-        i += 8;
-    }
-    by_one(s, i)
-}
-
-// The same byte by byte.
-fn by_one(s: &[u8], at: usize) -> usize
-    ensures { result ≡ at + text_len paper (drop at s.now) }
-{
-    let mut i = at;
-    while i < s.len() {
-        if class::is_cr_or_lf(s[i]) {
-            return i;
-        }
-        i += 1;
-    }
-    i
+    let Some(rest) = s.get(at..) else {
+        return at;
+    };
+    at + scan::until_low(rest, class::is_cr_or_lf)
 }
 
 // The text that stands at a place, with its line end.
-pub fn until_line_end(s: &[u8], at: usize) -> Text
+pub fn until_line_end(s: &[u8], at: usize) -> Option<Text>
     ensures { result ≡ text_at paper s.now at }
 {
     let end = text_end(s, at);
-    let Past::At(next) = newline(s, end) else {
-        return Text::Unended;
-    };
-    Text::Ended { end, next }
+    let next = newline(s, end)?;
+    Some(Text { end, next })
 }
 
-// The place behind the next LF, or the end; the place itself where that is beyond the end. Sixteen bytes a step where no LF is among them.
+// The place behind the next LF, or the end; the place itself where that is beyond the end.
 pub fn line_end(s: &[u8], at: usize) -> usize
     ensures { result ≡ at + line_len (drop at s.now) }
 {
-    let mut i = at;
-    while i < s.len() {
-        if s.len() - i < 16 {
-            break;
-        }
-        if block::among16(s, i, b'\n') {
-            break;
-        }
-        i += 16;
+    let feed = scan::next_byte(s, at, b'\n');
+    if feed < s.len() {
+        return feed + 1;
     }
-    line_end_by_one(s, i)
-}
-
-// The same byte by byte.
-fn line_end_by_one(s: &[u8], at: usize) -> usize
-    ensures { result ≡ at + line_len (drop at s.now) }
-{
-    let mut i = at;
-    while i < s.len() {
-        if s[i] == b'\n' {
-            return i + 1;
-        }
-        i += 1;
-    }
-    i
+    feed
 }

@@ -2,24 +2,17 @@
 ghost use Rattle.std.specs.Prelude.{◌≡◌, ◌-◌, take, drop};
 ghost use Rattle.parse.specs.Part.{byte_at};
 
-// What reading a part gives: the place behind it, or that it can't be read.
-#[derive(Clone, Copy)]
-pub enum Past {
-    At(usize),
-    Unread,
-}
-
 // The place behind the byte b, if that byte stands at a place.
-pub fn past_byte(s: &[u8], at: usize, b: u8) -> Past
+pub fn past_byte(s: &[u8], at: usize, b: u8) -> Option<usize>
     ensures { result ≡ byte_at b s.now at }
 {
     if s.len() <= at {
-        return Past::Unread;
+        return None;
     }
     if s[at] != b {
-        return Past::Unread;
+        return None;
     }
-    Past::At(at + 1)
+    Some(at + 1)
 }
 
 // The bytes from one place up to another, as far as there are any.

@@ -4,8 +4,7 @@ use mathlib.Core.List.{List}
 use Prim.Native.Nat.{ℕ, ◌+◌, ◌-◌}
 use native.Mathlib.Omega.{arith}
 use lib.ListN.{take, drop}
-use Rattle.length.specs.declared.Length.TheVariants.{Of}
-use Rattle.length.specs.Length.{length_at}
+use Rattle.length.specs.Length.{length_at, length_of}
 use Rattle.parts.specs.Parts.{edit_name, behind_name}
 
 -- so many bytes from a place on, as the code says it
@@ -15,7 +14,7 @@ part_is s from n =
     rw e
 
 module _ (list : List ℕ) (place : ℕ) where
-  module _ {len from : ℕ} (measure : length_at list (place + 1) ≡ Of len from) where
+  module _ {len from : ℕ} (measure : length_at list (place + 1) ≡ length_of len from) where
     pub name_there : edit_name list place ≡ take len (drop from list)
     unfolding edit_name
     name_there = rw measure

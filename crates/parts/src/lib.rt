@@ -6,22 +6,19 @@ ghost use Rattle.parts.specs.Parts.{edit_kind, edit_name, behind_name, edit_id, 
 
 use length::Length;
 
-// 0 delete, 1 update, 2 update with peeled id.
+// 0 delete, 1 update, 2 update with peeled id. A number and no enum: any byte may stand there, and the clause says which; `bad_edit`
+// (lock_names) speaks of it.
 pub fn edit_kind(list: &[u8], place: u32) -> u8
     ensures { result ≡ edit_kind list.now place }
 {
-    let at = place as usize;
-    if list.len() <= at {
-        return 0;
-    }
-    list[at]
+    list.get(place as usize).copied().unwrap_or(0)
 }
 
 pub fn edit_name(list: &[u8], place: u32) -> &[u8]
     ensures { result.now ≡ edit_name list.now place }
 {
-    let Length::Of { value, next } = length::length_at(list, place as usize + 1) else {
-        return &list[0..0];
+    let Some(Length { value, next }) = length::length_at(list, place as usize + 1) else {
+        return &[];
     };
     parse::part::between(list, next, next + value)
 }
@@ -45,8 +42,8 @@ pub fn edit_peeled(n: usize, list: &[u8], place: u32) -> &[u8]
 fn behind_name(list: &[u8], place: u32) -> &[u8]
     ensures { result.now ≡ behind_name list.now place }
 {
-    let Length::Of { value, next } = length::length_at(list, place as usize + 1) else {
-        return &list[0..0];
+    let Some(Length { value, next }) = length::length_at(list, place as usize + 1) else {
+        return &[];
     };
     parse::part::between(list, next + value, list.len())
 }

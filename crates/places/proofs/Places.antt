@@ -6,18 +6,32 @@ use Prim.Native.Nat.{ℕ, ◌<◌}
 use native.Mathlib.Omega.{arith}
 use lib.Dec.{ltb}
 use borrow.Author.Tests.{ltb-true, ltb-false, lt-ltb, le-ltb}
+use Rattle.std.proofs.lemmas.Bool.Decides.{nat_tests}
 use Rattle.compare.specs.Order.{order_of, is_less}
-use Rattle.compare.specs.declared.order.Order.{Order}
-use Rattle.compare.specs.declared.order.Order.TheVariants.{Less, Equal, Greater}
 use Rattle.compare.proofs.Orders.{order_refl, order_equal, is_equal, same_by_order, turned, order_turned, less_trans}
 use Rattle.places.specs.Order.{before}
 use Rattle.places.specs.Laws.{StrictOrder}
+use Rattle.std.specs.Ordering.{is_lt, ordering_then, nat_cmp}
+use Rattle.std.specs.declared.cmp.Ordering.{Ordering}
+use Rattle.std.specs.declared.cmp.Ordering.TheVariants.{Equal, Greater, Less}
 
 module _ (name : ℕ → List ℕ) where
   -- what the order of the names says
-  pub before_by : (p q : ℕ) (o : Order) → order_of (name p) (name q) ≡ o → before name p q ≡ (is_less o || (is_equal o && ltb p q))
+  pub before_by : (p q : ℕ) (o : Ordering) → order_of (name p) (name q) ≡ o → before name p q ≡ (is_less o || (is_equal o && ltb p q))
   unfolding before
   before_by p q o e = rw (same_by_order (name p) (name q), e)
+
+  -- the same in the words of `Ordering`
+  pub before_then : (p q : ℕ) → before name p q ≡ is_lt (ordering_then (order_of (name p) (name q)) (nat_cmp p q))
+  before_then p q = before_by p q _ refl ∙ go (order_of (name p) (name q))
+    where
+      by_place : ltb p q ≡ is_lt (nat_cmp p q)
+      by_place = grind (arith, nat_tests)
+
+      go : (o : Ordering) → (is_less o || (is_equal o && ltb p q)) ≡ is_lt (ordering_then o (nat_cmp p q))
+      go Less = refl
+      go Equal = by_place
+      go Greater = refl
 
   -- why a place comes first
   data First (p q : ℕ) : Type 0 where
@@ -31,7 +45,7 @@ module _ (name : ℕ → List ℕ) where
   first : (p q : ℕ) → before name p q ≡ true → First p q
   first p q h = go (order_of (name p) (name q)) refl
     where
-      go : (o : Order) → order_of (name p) (name q) ≡ o → First p q
+      go : (o : Ordering) → order_of (name p) (name q) ≡ o → First p q
       go Less e = by_name e
       go Equal e = by_place (order_equal (name p) (name q) e) (ltb-true p q (sym (before_by p q Equal e) ∙ h))
       go Greater e = absurd (true≢false (sym h ∙ before_by p q Greater e))
@@ -45,7 +59,7 @@ module _ (name : ℕ → List ℕ) where
   same_place : (p q : ℕ) → before name p q ≡ false → before name q p ≡ false → p ≡ q
   same_place p q h k = go (order_of (name p) (name q)) refl
     where
-      go : (o : Order) → order_of (name p) (name q) ≡ o → p ≡ q
+      go : (o : Ordering) → order_of (name p) (name q) ≡ o → p ≡ q
       go Less e = absurd (true≢false (sym (before_by p q Less e) ∙ h))
       go Equal e =
           let f = order_turned (name p) (name q) ∙ ap turned e in

@@ -5,8 +5,8 @@ use Prim.Native.Nat.{ℕ, ◌<◌}
 use native.Mathlib.Omega.{arith}
 use borrow.Author.Tests.{lt-ltb, le-ltb}
 use Rattle.compare.specs.Order.{order_of}
-use Rattle.compare.specs.declared.order.Order.TheVariants.{Less, Equal, Greater}
 use Rattle.places.specs.Letter.{letter}
+use Rattle.std.specs.declared.cmp.Ordering.TheVariants.{Equal, Greater, Less}
 
 pub smaller_letter : (a b : List ℕ) → letter a < letter b → order_of a b ≡ Less
 smaller_letter [] [] h = absurd (omega arith)

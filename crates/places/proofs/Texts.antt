@@ -13,10 +13,10 @@ use borrow.Author.Count.{below_none, below_more}
 use borrow.Author.Tests.{ltb-true, ltb-false}
 use Rattle.class.specs.Class.{is_line_end}
 use Rattle.compare.specs.Order.{order_of}
-use Rattle.compare.specs.declared.order.Order.{Order}
 use Rattle.compare.proofs.Orders.{same_first}
 use Rattle.places.specs.Name.{text_of}
 use Rattle.places.specs.Letter.{letter, Alike}
+use Rattle.std.specs.declared.cmp.Ordering.{Ordering}
 
 -- ---- a text from a place on
 
@@ -55,7 +55,7 @@ module _ (s : List ℕ) (i : ℕ) where
 -- ---- two texts from a place on
 
 module _ (x y : List ℕ) where
-  abbrev pub order_from : ℕ → Order
+  abbrev pub order_from : ℕ → Ordering
   order_from i = order_of (text_of (drop i x)) (text_of (drop i y))
 
   go_on : (i : ℕ) → i < length x → i < length y → get_or x i 0 ≡ get_or y i 0 → is_line_end (get_or x i 0) ≡ false

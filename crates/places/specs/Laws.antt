@@ -2,7 +2,7 @@
 use Rattle.std.specs.Prelude.{Bool, true, false, ◌≡◌, List, [], ◌∷◌, ℕ, ◌+◌, ◌<◌, eqb, length, get_or}
 use Rattle.class.specs.Class.{bit}
 use Rattle.compare.specs.Order.{order_of}
-use Rattle.compare.specs.declared.order.Order.TheVariants.{Less}
+use Rattle.std.specs.declared.cmp.Ordering.TheVariants.{Less}
 
 -- a test of coming first that is a strict total order
 pub record StrictOrder (lt : ℕ → ℕ → Bool) : Type 0 where

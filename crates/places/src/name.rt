@@ -5,9 +5,9 @@ ghost use Rattle.compare.specs.Prefix.{same};
 ghost use Rattle.places.specs.Name.{standing_name};
 ghost use Rattle.places.specs.Order.{comes_first};
 
-use compare::order::Order;
+use std::cmp::Ordering;
 
-// How a name is found at a place of the bytes.
+// How a name is found at a place of the bytes. Two ways and no closure: the definitions go by them (`standing_name`).
 #[derive(Clone, Copy)]
 pub enum Layout {
     // An edit: kind byte, name length, name (`parts`).
@@ -20,26 +20,18 @@ pub enum Layout {
 pub fn comes_first(s: &[u8], layout: Layout, p: u32, q: u32) -> bool
     ensures { result ≡ comes_first layout s.now p q }
 {
-    match compare(s, layout, p, q) {
-        Order::Less => true,
-        Order::Equal => p < q,
-        Order::Greater => false,
-    }
+    compare(s, layout, p, q).then(p.cmp(&q)).is_lt()
 }
 
 // Whether the same name stands at two places.
 pub fn same_name(s: &[u8], layout: Layout, p: u32, q: u32) -> bool
     ensures { result ≡ same (standing_name layout s.now p) (standing_name layout s.now q) }
 {
-    match compare(s, layout, p, q) {
-        Order::Less => false,
-        Order::Equal => true,
-        Order::Greater => false,
-    }
+    compare(s, layout, p, q).is_eq()
 }
 
 // The order of the names at two places.
-pub(crate) fn compare(s: &[u8], layout: Layout, p: u32, q: u32) -> Order
+pub(crate) fn compare(s: &[u8], layout: Layout, p: u32, q: u32) -> Ordering
     ensures { result ≡ order_of (standing_name layout s.now p) (standing_name layout s.now q) }
 {
     match layout {
@@ -56,11 +48,8 @@ fn behind_id(s: &[u8], p: u32, digits: usize) -> &[u8]
     ensures { result.now ≡ drop (p + digits + 1) s.now }
 {
     let at = p as usize;
-    if s.len() <= at {
-        return &s[0..0];
-    }
-    if s.len() - at <= digits {
-        return &s[0..0];
+    if s.len() <= at || s.len() - at <= digits {
+        return &[];
     }
     let from = at + digits + 1;
     &s[from..]

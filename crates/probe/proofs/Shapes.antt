@@ -7,14 +7,13 @@ use native.Mathlib.Omega.{arith}
 use lib.Dec.{ltb}
 use lib.ListN.{get_or, length, drop, length-drop}
 use borrow.Author.Tests.{ltb-true, ltb-false}
-use Rattle.parse.specs.declared.part.Past.TheVariants.{At}
 use Rattle.class.specs.Class.{Classes}
 use Rattle.parse.specs.Part.{byte_at}
 use Rattle.parse.specs.Line.{eol, text_len}
 use Rattle.parse.proofs.Runs.{span_le}
 use Rattle.parse.proofs.Views.{ByteView, there, not_there, byte_view, text_end, TextView, text, no_text, text_view}
-use Rattle.probe.specs.declared.shape.Shape.TheVariants.{NameLen, Fails}
 use Rattle.probe.specs.Shape.{shape_of}
+use Rattle.std.specs.declared.option.Option.TheVariants.{None, Some}
 
 module _ (byte : Classes) (n : ℕ) (s : List ℕ) where
   -- the length of the text behind n bytes and one more
@@ -28,10 +27,10 @@ module _ (byte : Classes) (n : ℕ) (s : List ℕ) where
     pub end : 0 < eol (drop (text_end byte s (n + 1)) s)
 
   pub data ShapeView : Type 0 where
-    named : n < length s → Shaped → shape_of byte n s ≡ NameLen shape_len → ShapeView
-    shapeless : (Shaped → ⊥) → shape_of byte n s ≡ Fails → ShapeView
+    named : n < length s → Shaped → shape_of byte n s ≡ Some shape_len → ShapeView
+    shapeless : (Shaped → ⊥) → shape_of byte n s ≡ None → ShapeView
 
-  behind_space : n < length s → get_or s n 0 ≡ 32 → byte_at 32 s n ≡ At (n + 1) → TextView byte s (n + 1) → (t : Bool) → ltb (n + 1) (text_end byte s (n + 1)) ≡ t → ShapeView
+  behind_space : n < length s → get_or s n 0 ≡ 32 → byte_at 32 s n ≡ Some (n + 1) → TextView byte s (n + 1) → (t : Bool) → ltb (n + 1) (text_end byte s (n + 1)) ≡ t → ShapeView
   unfolding shape_of
   behind_space l b e (no_text z f) t q = shapeless (λ h. omega (arith, h.end)) (rw (e, f))
   behind_space l b e (text some f) false q = shapeless (λ h. omega (arith, h.some, ltb-false (n + 1) (text_end byte s (n + 1)) q)) (rw (e, f, q))
@@ -48,7 +47,7 @@ module _ (byte : Classes) (n : ℕ) (s : List ℕ) where
       go (not_there other e) = shapeless (λ h. other h.space) (rw e)
       go (there l b e) = behind_space l b e (text_view byte s (n + 1)) (ltb (n + 1) (text_end byte s (n + 1))) refl
 
-  pub shape_fits : (k : ℕ) → shape_of byte n s ≡ NameLen k → n + 1 + k ≤ length s
+  pub shape_fits : (k : ℕ) → shape_of byte n s ≡ Some k → n + 1 + k ≤ length s
   shape_fits k e = go shape_view
     where
       go : ShapeView → n + 1 + k ≤ length s

@@ -1,18 +1,28 @@
 -- Line starts and record starts, by what stands before a place.
 use mathlib.Core.Path.{◌≡◌, refl, sym, ap, ◌∙◌}
-use mathlib.Core.Bool.{Bool, true, false}
-use mathlib.Core.List.{List}
-use Prim.Native.Nat.{ℕ, zero, suc, ◌+◌, ◌-◌, ◌≤◌, ◌<◌}
+use mathlib.Core.Bool.{Bool, true, false, not, cond}
+use mathlib.Core.List.{List, [], ◌∷◌, reverse}
+use Prim.Native.Nat.{ℕ, zero, suc, ◌+◌, ◌-◌, ◌≤◌, ◌<◌, min}
 use native.Mathlib.Omega.{arith}
 use native.Mathlib.Nat.{add-zero, le-suc_iff}
 use mathlib.Core.Logic.{inl, inr}
 use lib.Dec.{ltb, eqb}
-use lib.ListN.{get_or, length, get_or-eq_default}
+use lib.ListN.{get_or, length, take, drop, length-drop, get_or-eq_default, length-reverse}
+use lib.Seq.{get_or-take, take-suc, take_all, length-take-le}
+use Rattle.block.specs.Among.{among}
+use Rattle.block.proofs.Members.{none_among}
+use Rattle.std.specs.List.{position_or_len}
+use Rattle.std.proofs.lemmas.List.{reverse-append}
+use Rattle.std.specs.declared.option.Option.{Option}
 use borrow.Author.Tests.{eq-eqb, ne_eqb, eqb-true, eqb-false, ltb-true, ltb-false}
+use Rattle.std.specs.declared.option.Option.TheVariants.{Some, None}
 use Rattle.word.specs.Low.{last_low_at}
 use Rattle.word.proofs.Lows.{last_low_run}
 use Rattle.parse.specs.Choice.{if}
 use Rattle.probe.specs.RecordStart.{line_start, record_start}
+
+abbrev pub feed : ℕ → Bool
+feed b = eqb b 10
 
 module _ (s : List ℕ) where
   pub line_first : (i : ℕ) → i ≤ 0 → line_start s i ≡ 0
@@ -36,16 +46,39 @@ module _ (s : List ℕ) where
       rw (q, ne_eqb (get_or s (i + k) 0) 10 (none k (omega arith))) (line_skip i k (λ j h. none j (omega arith)))
 
   -- a look at the eight bytes before a place goes back over those behind the last low one: line feeds are low
-  pub look_back : (i n : ℕ) → 8 ≤ i → n ≡ last_low_at s (i - 8) → n ≤ 8 → line_start s i ≡ line_start s (i - n)
-  look_back i n h e m =
+  pub look_back : (i : ℕ) {n : ℕ} → 8 ≤ i → last_low_at s (i - 8) ≡ Some n → (n ≤ 8) × (line_start s i ≡ line_start s (i - n))
+  look_back i {n} h e =
+      let (left, within, low) = last_low_run s (i - 8) e in
       let whole : i - n + n ≡ i = omega arith in
-      ap (line_start s) (sym whole) ∙ line_skip (i - n) n none
+      (within, ap (line_start s) (sym whole) ∙ line_skip (i - n) n (none within low))
     where
-      none : (j : ℕ) → j < n → get_or s (i - n + j) 0 ≡ 10 → ⊥
-      none j l q =
+      none : n ≤ 8 → ((k : ℕ) → k < 8 → 8 ≤ k + n → 14 ≤ get_or s (i - 8 + k) 0) → (j : ℕ) → j < n → get_or s (i - n + j) 0 ≡ 10 → ⊥
+      none m low j l q =
           let k = 8 - n + j in
           let same : get_or s (i - 8 + k) 0 ≡ get_or s (i - n + j) 0 = ap (λ (x : ℕ). get_or s x 0) (omega arith) in
-          omega (arith, same, q, (last_low_run s (i - 8) n (sym e) m).1 k (omega arith) (omega arith))
+          omega (arith, same, q, low k (omega arith) (omega arith))
+
+  -- in the first bytes, as far as the place
+  pub line_front : (k i : ℕ) → i ≤ k → line_start (take k s) i ≡ line_start s i
+  line_front k zero h = refl
+  line_front k (suc p) h = let same : get_or (take k s) p 0 ≡ get_or s p 0 = get_or-take k s p 0 (omega arith) in rw same (ap (if (eqb (get_or s p 0) 10) (suc p)) (line_front k p (omega arith)))
+
+  -- how far back from a place the first LF stands tells where its line begins
+  back_found : (i : ℕ) → i ≤ length s → (position_or_len feed (reverse (take i s)) < i → line_start s i ≡ i - position_or_len feed (reverse (take i s)))
+      × (i ≤ position_or_len feed (reverse (take i s)) → line_start s i ≡ 0)
+  back_found zero h = (λ l. absurd (omega arith), λ l. refl)
+  back_found (suc p) h =
+      let turned : reverse (take (suc p) s) ≡ get_or s p 0 ∷ reverse (take p s) =
+      ap reverse (take-suc s p 0 h) ∙ reverse-append (take p s) (get_or s p 0 ∷ []) in
+      rw turned (go (eqb (get_or s p 0) 10) (back_found p (omega arith)))
+    where
+      k : ℕ
+      k = position_or_len feed (reverse (take p s))
+
+      go : (c : Bool) → (k < p → line_start s p ≡ p - k) × (p ≤ k → line_start s p ≡ 0)
+          → (cond (not c) (1 + k) 0 < suc p → if c (suc p) (line_start s p) ≡ suc p - cond (not c) (1 + k) 0) × (suc p ≤ cond (not c) (1 + k) 0 → if c (suc p) (line_start s p) ≡ 0)
+      go true x = (λ l. omega arith, λ l. absurd (omega arith))
+      go false x = (λ l. omega (arith, x.0 (omega arith)), λ l. x.1 (omega arith))
 
   pub line_le : (i : ℕ) → line_start s i ≤ i
   line_le zero = omega arith
@@ -65,6 +98,13 @@ module _ (s : List ℕ) where
             rw none (line_beyond p l)
         | inr e ↦ ap (line_start s) (sym e)
       ]
+
+  pub line_min : (i : ℕ) → line_start s (min i (length s)) ≡ line_start s i
+  line_min i = go (ltb i (length s)) refl
+    where
+      go : (t : Bool) → ltb i (length s) ≡ t → line_start s (min i (length s)) ≡ line_start s i
+      go true e = let l = ltb-true i (length s) e in ap (line_start s) (omega arith)
+      go false e = let l = ltb-false i (length s) e in ap (line_start s) (omega arith) ∙ sym (line_beyond i l)
 
   pub line_inside : (i : ℕ) → line_start s i ≤ length s
   line_inside zero = omega arith
@@ -107,3 +147,42 @@ start_inside s place = go (eqb (get_or s (line_start s place) 0) 94) (eqb (line_
     go true v = line_inside s (line_start s place - 1)
     go false true = omega arith
     go false false = line_inside s place
+
+-- the first bytes as far as a place, and the bytes without the last sixteen, where no LF is among those
+module _ (s : List ℕ) where
+  pub front_start : {i : ℕ} → i ≤ length s → line_start (take i s) (length (take i s)) ≡ line_start s i
+  front_start {i} h = ap (line_start (take i s)) (length-take-le i s h) ∙ line_front s i i (omega arith)
+
+  pub chunk_start : {front sixteen : List ℕ} → front ≡ take (length s - 16) s → sixteen ≡ drop (length s - 16) s → length front + 16 ≡ length s
+      → among 10 sixteen ≡ false → line_start front (length front) ≡ line_start s (length s)
+  chunk_start {front} {sixteen} f e l none =
+      let k = length s - 16 in
+      let whole : k + 16 ≡ length s = omega arith in
+      let left : length (drop k s) ≤ 16 = omega (arith, length-drop k s) in
+      let clear : among 10 (take 16 (drop k s)) ≡ false = ap (among 10) (take_all 16 (drop k s) left ∙ sym e) ∙ none in
+      let over = line_skip s k 16 (λ j h. eqb-false _ _ (none_among 10 s k 16 j clear h (omega arith))) in
+      ap (λ (r : List ℕ). line_start r (length r)) f ∙ front_start (omega arith) ∙ sym over ∙ ap (line_start s) whole
+
+-- what std's search from the end tells: where the last LF stands, or that there is none
+module _ (s : List ℕ) {r : Option ℕ} (told : r ≡ cond (ltb (position_or_len feed (reverse s)) (length (reverse s))) (Some (position_or_len feed (reverse s))) None) where
+  all_of : (position_or_len feed (reverse s) < length s → line_start s (length s) ≡ length s - position_or_len feed (reverse s))
+      × (length s ≤ position_or_len feed (reverse s) → line_start s (length s) ≡ 0)
+  all_of = rw (take_all (length s) s (omega arith)) at (back_found s (length s) (omega arith))
+
+  pub feed_last : {n : ℕ} → r ≡ Some n → length s - n ≡ line_start s (length s)
+  feed_last {n} e = go (ltb (position_or_len feed (reverse s)) (length (reverse s))) refl (sym told ∙ e)
+    where
+      go : (t : Bool) → ltb (position_or_len feed (reverse s)) (length (reverse s)) ≡ t → cond t (Some (position_or_len feed (reverse s))) None ≡ Some n
+          → length s - n ≡ line_start s (length s)
+      go true l q =
+          let same : position_or_len feed (reverse s) ≡ n = cc in
+          omega (arith, all_of.0 (omega (arith, ltb-true _ _ l, length-reverse s)))
+      go false l q = absurd (let z : ◌≡◌ {A = ℕ} 0 1 = cc in omega arith)
+
+  pub feed_none : r ≡ None → 0 ≡ line_start s (length s)
+  feed_none e = go (ltb (position_or_len feed (reverse s)) (length (reverse s))) refl (sym told ∙ e)
+    where
+      go : (t : Bool) → ltb (position_or_len feed (reverse s)) (length (reverse s)) ≡ t → cond t (Some (position_or_len feed (reverse s))) None ≡ None
+          → 0 ≡ line_start s (length s)
+      go true l q = absurd (let z : ◌≡◌ {A = ℕ} 0 1 = cc in omega arith)
+      go false l q = omega (arith, all_of.1 (omega (arith, ltb-false _ _ l, length-reverse s)))

@@ -1,5 +1,5 @@
 // Where the record begins that a place lies in.
-ghost use Rattle.std.specs.Prelude.{◌≡◌, ◌≤◌, length};
+ghost use Rattle.std.specs.Prelude.{◌≡◌, length};
 ghost use Rattle.probe.specs.RecordStart.{line_start, record_start, OfLine};
 
 // The start of the record that a place lies in, by line feeds alone.
@@ -9,7 +9,8 @@ pub fn record_start(s: &[u8], place: usize) -> usize
     from_line(s, line_start(s, place))
 }
 
-// The same, where the line is expected to begin far away: sixteen bytes a step at once.
+// The same, where the line is expected to begin far away: sixteen bytes a step at once. Two functions, since each is fast for its own kind of line
+// (docs/DECISIONS.md, "Looking ahead in a search").
 pub fn record_start_far(s: &[u8], place: usize) -> usize
     ensures { result ≡ record_start s.now place }
 {
@@ -32,77 +33,56 @@ fn from_line(s: &[u8], start: usize) -> usize
     line_start(s, start - 1)
 }
 
-// The byte after the last LF before a place, or 0. A place beyond the end counts as the end.
+// The byte after the last LF before a place, or 0. A place beyond the end counts as the end. Eight bytes a step, eight times at most: most lines are short. Then
+// sixteen a step.
 pub(crate) fn line_start(s: &[u8], place: usize) -> usize
     ensures { result ≡ line_start s.now place }
 {
-    if s.len() < place {
-        return line_start_within(s, s.len());
-    }
-    line_start_within(s, place)
-}
-
-fn line_start_far(s: &[u8], place: usize) -> usize
-    ensures { result ≡ line_start s.now place }
-{
-    if s.len() < place {
-        return by_sixteen(s, s.len());
-    }
-    by_sixteen(s, place)
-}
-
-// Eight bytes a step, eight times at most: most lines are short. Then sixteen a step.
-fn line_start_within(s: &[u8], place: usize) -> usize
-    requires { place ≤ length s.now }
-    ensures { result ≡ line_start s.now place }
-{
-    let mut i = place;
-    let mut steps: usize = 0;
-    while steps < 8 {
+    let mut i = place.min(s.len());
+    for _ in 0..8 {
         if i < 8 {
             break;
         }
-        let n = word::last_low(s, i - 8);
+        let Some(n) = word::last_low(s, i - 8) else {
+            break;
+        };
         if n < 8 {
             if s[i - n - 1] == b'\n' {
                 return i - n;
             }
             break;
         }
-        if 8 < n {
-            break;
-        }
         i -= 8;
-        steps += 1;
     }
-    by_sixteen(s, i)
+    last_start(&s[..i])
 }
 
-// Sixteen bytes a step where there is no LF, then byte by byte.
-fn by_sixteen(s: &[u8], place: usize) -> usize
-    requires { place ≤ length s.now }
+fn line_start_far(s: &[u8], place: usize) -> usize
     ensures { result ≡ line_start s.now place }
 {
-    let mut i = place;
-    while 16 <= i {
-        if block::among16(s, i - 16, b'\n') {
+    last_start(&s[..place.min(s.len())])
+}
+
+// The start of the last line. Sixteen bytes a step where there is no LF, then byte by byte.
+fn last_start(s: &[u8]) -> usize
+    ensures { result ≡ line_start s.now (length s.now) }
+{
+    let mut rest = s;
+    while let Some((front, sixteen)) = rest.split_last_chunk::<16>() {
+        if block::among(sixteen, b'\n') {
             break;
         }
-        i -= 16;
+        rest = front;
     }
-    by_one(s, i)
+    by_one(rest)
 }
 
-fn by_one(s: &[u8], place: usize) -> usize
-    requires { place ≤ length s.now }
-    ensures { result ≡ line_start s.now place }
+// The same byte by byte.
+fn by_one(s: &[u8]) -> usize
+    ensures { result ≡ line_start s.now (length s.now) }
 {
-    let mut i = place;
-    while 0 < i {
-        if s[i - 1] == b'\n' {
-            return i;
-        }
-        i -= 1;
+    match s.iter().rev().position(|b| *b == b'\n') {
+        Some(n) => s.len() - n,
+        None => 0,
     }
-    0
 }

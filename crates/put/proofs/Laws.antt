@@ -14,26 +14,26 @@ use Rattle.put.specs.Put.{over, place_behind}
 
 -- ---- the bytes one by one
 
-over_none : (at : ℕ) (w : List ℕ) → over [] at w ≡ []
+over_none : {A : Type 0} (at : ℕ) (w : List A) → over [] at w ≡ []
 over_none at w = rw (take-nil, zero-sub, drop-nil)
 
-over_past : (x : ℕ) (d : List ℕ) (at : ℕ) (w : List ℕ) → over (x ∷ d) (suc at) w ≡ x ∷ over d at w
+over_past : {A : Type 0} (x : A) (d : List A) (at : ℕ) (w : List A) → over (x ∷ d) (suc at) w ≡ x ∷ over d at w
 over_past x d at w = rw (suc-sub-suc (length d) at, suc-add at (length w))
 
-over_here : (x : ℕ) (d : List ℕ) (b : ℕ) (w : List ℕ) → over (x ∷ d) 0 (b ∷ w) ≡ b ∷ over d 0 w
+over_here : {A : Type 0} (x : A) (d : List A) (b : A) (w : List A) → over (x ∷ d) 0 (b ∷ w) ≡ b ∷ over d 0 w
 over_here x d b w = rw (sub-zero (suc (length d)), sub-zero (length d), zero-add (suc (length w)), zero-add (length w))
 
 -- ---- no text, no room, the length
 
-pub over_nil : (d : List ℕ) (at : ℕ) → over d at [] ≡ d
+pub over_nil : {A : Type 0} (d : List A) (at : ℕ) → over d at [] ≡ d
 over_nil d at = rw (take-nil, add-zero) (take-append-drop at d)
 
-pub over_beyond : (d : List ℕ) (at : ℕ) (w : List ℕ) → length d ≤ at → over d at w ≡ d
+pub over_beyond : {A : Type 0} (d : List A) (at : ℕ) (w : List A) → length d ≤ at → over d at w ≡ d
 over_beyond [] at w h = over_none at w
 over_beyond (x ∷ d) zero w h = absurd (omega arith)
 over_beyond (x ∷ d) (suc at) w h = over_past x d at w ∙ ap (λ l. x ∷ l) (over_beyond d at w (omega arith))
 
-pub length_over : (d : List ℕ) (at : ℕ) (w : List ℕ) → length (over d at w) ≡ length d
+pub length_over : {A : Type 0} (d : List A) (at : ℕ) (w : List A) → length (over d at w) ≡ length d
 length_over [] at w = ap length (over_none at w)
 length_over (x ∷ d) zero [] = ap length (over_nil (x ∷ d) 0)
 length_over (x ∷ d) zero (b ∷ w) = ap length (over_here x d b w) ∙ ap suc (length_over d 0 w)
@@ -41,7 +41,7 @@ length_over (x ∷ d) (suc at) w = ap length (over_past x d at w) ∙ ap suc (le
 
 -- ---- a text behind another
 
-over_next : (d : List ℕ) (at : ℕ) (s t : List ℕ) → over (over d at s) (at + length s) t ≡ over d at (s ++ t)
+over_next : {A : Type 0} (d : List A) (at : ℕ) (s t : List A) → over (over d at s) (at + length s) t ≡ over d at (s ++ t)
 over_next [] at s t =
     ap (λ l. over l (at + length s) t) (over_none at s) ∙ over_none (at + length s) t ∙ sym (over_none at (s ++ t))
 over_next (x ∷ d) zero [] t = ap (λ l. over l (0 + 0) t) (over_nil (x ∷ d) 0) ∙ ap (λ k. over (x ∷ d) k t) (add-zero 0)
@@ -58,15 +58,15 @@ over_next (x ∷ d) (suc at) s t =
     ∙ ap (λ l. x ∷ l) (over_next d at s t)
     ∙ sym (over_past x d at (s ++ t))
 
-pub over_twice : (d : List ℕ) (at k : ℕ) (s t : List ℕ) → k ≡ at + length s → over (over d at s) k t ≡ over d at (s ++ t)
+pub over_twice : {A : Type 0} (d : List A) (at k : ℕ) (s t : List A) → k ≡ at + length s → over (over d at s) k t ≡ over d at (s ++ t)
 over_twice d at k s t e = ap (λ n. over (over d at s) n t) e ∙ over_next d at s t
 
 -- ---- a text that fits
 
-pub over_fits : (d w : List ℕ) → length w ≤ length d → over d 0 w ≡ w ++ drop (length w) d
+pub over_fits : {A : Type 0} (d w : List A) → length w ≤ length d → over d 0 w ≡ w ++ drop (length w) d
 over_fits d w h = rw (sub-zero, zero-add, take_all (length d) w h)
 
-pub over_byte : (d : List ℕ) (at b : ℕ) → at < length d → set d at b ≡ over d at (b ∷ [])
+pub over_byte : {A : Type 0} (d : List A) (at : ℕ) (b : A) → at < length d → set d at b ≡ over d at (b ∷ [])
 over_byte d at b h = set_split d at b h ∙ rw (take_all (length d - at) (b ∷ []) (omega arith), add-one)
 
 -- ---- the place behind a text

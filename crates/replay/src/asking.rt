@@ -1,163 +1,137 @@
-// A question to the library that lends bytes alone, and its answer. A field that the paper does not give beside a number is not printed.
-use crate::question::Question;
-use crate::telling;
+// A question to the library, and its answer. A field that says nothing beside a number is not printed.
+
+use crate::question::{Asks, Question};
+use crate::{merging, telling};
+use reply_file::walk::StepReply;
 use std::io;
 
-pub(crate) fn ask(rt: &impl Print, q: Question, a: &[u8], b: &[u8]) -> io::Result<()> {
+pub(crate) fn ask(rt: &impl Print, q: Question) -> io::Result<()> {
     let kind = q.kind;
-    let letter = q.letter;
-    match letter {
-        b'h' => header(rt, a),
-        b'n' => name(rt, a),
-        b'i' => iteration(rt, kind, a),
-        b't' => step(rt, kind, a, q.first),
-        b'w' => walk(rt, kind, a, q.first, q.second as u64),
-        b'c' => check(rt, kind, a),
-        b's' => record_start(rt, a, q.first),
-        b'f' => lookup(rt, kind, a, b),
-        b'p' => prefix(rt, kind, a, b),
-        b'a' => trusted(rt, kind, a, b),
-        b'l' => loose(rt, kind, a),
-        _ => telling::text(rt, b" not a question"),
+    match q.asks {
+        Asks::Header => header(rt, q.a),
+        Asks::Name => name(rt, q.a),
+        Asks::Iteration => iteration(rt, kind, q.a),
+        Asks::Step { place } => step(rt, kind, q.a, place),
+        Asks::Walk { place, line } => walk(rt, kind, q.a, place, line),
+        Asks::Check => check(rt, kind, q.a),
+        Asks::RecordStart { place } => record_start(rt, q.a, place),
+        Asks::Lookup => lookup(rt, kind, q.a, q.b),
+        Asks::Prefix => prefix(rt, kind, q.a, q.b),
+        Asks::Trusted => trusted(rt, kind, q.a, q.b),
+        Asks::Loose => loose(rt, kind, q.a),
+        Asks::Merge { index_len, out_len } => merging::merge(rt, q, index_len, out_len),
     }
 }
 
 fn header(rt: &impl Print, file: &[u8]) -> io::Result<()> {
     let r = host::read::packed_refs_header(file);
-    telling::number(rt, r.number)?;
-    if r.number == 2 {
-        telling::place(rt, r.text_len)?;
+    print!(rt; " {}", r.number)?;
+    match r.number {
+        0 => print!(rt; " {} {} {}", r.peeled, r.sorted, r.place),
+        2 => print!(rt; " {}", r.text_len),
+        _ => Ok(()),
     }
-    if r.number == 0 {
-        telling::number(rt, r.peeled)?;
-        telling::number(rt, r.sorted)?;
-        telling::place(rt, r.place)?;
-    }
-    Ok(())
 }
 
 fn name(rt: &impl Print, name: &[u8]) -> io::Result<()> {
-    telling::number(rt, host::read::packed_refs_name(name))
+    print!(rt; " {}", host::read::packed_refs_name(name))
 }
 
 // Where it begins, on which line, its items, and its end with the line that was handed on.
 fn iteration(rt: &impl Print, kind: u32, file: &[u8]) -> io::Result<()> {
     let r = host::read::packed_refs_start(kind, file);
-    telling::number(rt, r.number)?;
-    if r.number == 2 {
-        telling::place(rt, r.text_len)?;
+    print!(rt; " {}", r.number)?;
+    match r.number {
+        0 => {
+            print!(rt; " {} {}", r.place, r.line)?;
+            let end = items(rt, file.len(), r.place, r.line, |place, line| {
+                host::read::packed_refs_walk(kind, file, place, line)
+            })?;
+            walked(rt, end)
+        },
+        2 => print!(rt; " {}", r.text_len),
+        _ => Ok(()),
     }
-    if r.number == 0 {
-        telling::place(rt, r.place)?;
-        telling::count(rt, r.line)?;
-        let end = items(rt, true, kind, file, &file[0..0], r.place, r.line)?;
-        walked(rt, end)?;
-    }
-    Ok(())
 }
 
-// Where it begins, its items, and its end.
+// Where it begins, its items, and its end. Its step has its prefix, which may be empty, and hands on no line.
 fn prefix(rt: &impl Print, kind: u32, body: &[u8], prefix: &[u8]) -> io::Result<()> {
     let r = host::read::packed_refs_prefix(kind, body, prefix);
-    telling::number(rt, r.number)?;
-    if r.number == 2 {
-        telling::place(rt, r.text_at)?;
-        telling::place(rt, r.text_len)?;
+    print!(rt; " {}", r.number)?;
+    match r.number {
+        0 => {
+            print!(rt; " {}", r.place)?;
+            let end = items(rt, body.len(), r.place, 0, |place, _line| {
+                host::read::packed_refs_step_prefix(kind, body, prefix, place)
+            })?;
+            item(rt, end)
+        },
+        2 => print!(rt; " {} {}", r.text_at, r.text_len),
+        _ => Ok(()),
     }
-    if r.number == 0 {
-        telling::place(rt, r.place)?;
-        let end = items(rt, false, kind, body, prefix, r.place, 0)?;
-        item(rt, end)?;
-    }
-    Ok(())
 }
 
-// The items from a place on; the end is given back.
-fn items(
+// The items of so many bytes from a place on, by the step that is given; the end is given back.
+fn items<F: Fn(usize, u64) -> StepReply>(
     rt: &impl Print,
-    walks: bool,
-    kind: u32,
-    bytes: &[u8],
-    prefix: &[u8],
+    len: usize,
     from: usize,
     first: u64,
-) -> io::Result<reply_file::walk::StepReply> {
+    next: F,
+) -> io::Result<StepReply>
+    requires { F.IsAlwaysCallable next }
+{
+    let mut r = next(from, first);
     let mut place = from;
-    let mut line = first;
-    while place < bytes.len() {
-        let r = next(walks, kind, bytes, prefix, place, line);
-        if r.what == 0 {
-            break;
-        }
+    while place < len && r.what != 0 {
         item(rt, r)?;
         // A step that stood still would be printed again and again.
         if r.next <= place {
             break;
         }
         place = r.next;
-        line = r.next_line;
+        r = next(place, r.next_line);
     }
-    Ok(next(walks, kind, bytes, prefix, place, line))
-}
-
-// An iteration walks; a listing steps with its prefix, which may be empty, and hands on no line.
-fn next(
-    walks: bool,
-    kind: u32,
-    bytes: &[u8],
-    prefix: &[u8],
-    place: usize,
-    line: u64,
-) -> reply_file::walk::StepReply {
-    if walks {
-        return host::read::packed_refs_walk(kind, bytes, place, line);
-    }
-    host::read::packed_refs_step_prefix(kind, bytes, prefix, place)
+    Ok(r)
 }
 
 fn step(rt: &impl Print, kind: u32, bytes: &[u8], place: usize) -> io::Result<()> {
     let r = host::read::packed_refs_step(kind, bytes, place);
-    telling::number(rt, r.number)?;
-    if r.number == 0 {
-        item(rt, r)?;
+    print!(rt; " {}", r.number)?;
+    match r.number {
+        0 => item(rt, r),
+        _ => Ok(()),
     }
-    Ok(())
 }
 
 fn walk(rt: &impl Print, kind: u32, bytes: &[u8], place: usize, line: u64) -> io::Result<()> {
     let r = host::read::packed_refs_walk(kind, bytes, place, line);
-    telling::number(rt, r.number)?;
-    if r.number == 0 {
-        walked(rt, r)?;
+    print!(rt; " {}", r.number)?;
+    match r.number {
+        0 => walked(rt, r),
+        _ => Ok(()),
     }
-    Ok(())
 }
 
 // What a walk tells, and the line that it hands on.
-fn walked(rt: &impl Print, r: reply_file::walk::StepReply) -> io::Result<()> {
+fn walked(rt: &impl Print, r: StepReply) -> io::Result<()> {
     item(rt, r)?;
-    telling::count(rt, r.next_line)
+    print!(rt; " {}", r.next_line)
 }
 
-fn item(rt: &impl Print, r: reply_file::walk::StepReply) -> io::Result<()> {
-    let what = r.what;
-    match what {
-        0 => {
-            telling::text(rt, b" .")?;
-            telling::place(rt, r.next)
-        },
+fn item(rt: &impl Print, r: StepReply) -> io::Result<()> {
+    match r.what {
+        0 => print!(rt; " . {}", r.next),
         1 => {
             telling::text(rt, b" r")?;
             record(rt, r.start, r.name_at, r.name_len, r.peeled_at)?;
-            telling::place(rt, r.next)
+            print!(rt; " {}", r.next)
         },
         _ => {
-            telling::text(rt, b" e")?;
-            telling::place(rt, r.start)?;
-            telling::number(rt, r.why)?;
-            telling::count(rt, r.line)?;
-            telling::place(rt, r.text_len)?;
-            telling::place(rt, r.next)
+            print!(rt;
+                " e {} {} {} {} {}",
+                r.start, r.why, r.line, r.text_len, r.next
+            )
         },
     }
 }
@@ -169,57 +143,49 @@ fn record(
     name_len: usize,
     peeled_at: usize,
 ) -> io::Result<()> {
-    telling::place(rt, place)?;
-    telling::place(rt, name_at)?;
-    telling::place(rt, name_len)?;
-    telling::place(rt, peeled_at)
+    print!(rt; " {place} {name_at} {name_len} {peeled_at}")
 }
 
 fn check(rt: &impl Print, kind: u32, file: &[u8]) -> io::Result<()> {
     let r = host::read::packed_refs_check(kind, file);
-    let n = r.number;
-    telling::number(rt, n)?;
-    match n {
-        0 => telling::place(rt, r.count),
-        _ => telling::file_refusal(rt, n, r.place, r.line, r.text_len),
+    print!(rt; " {}", r.number)?;
+    match r.number {
+        0 => print!(rt; " {}", r.count),
+        n => telling::file_refusal(rt, n, r.place, r.line, r.text_len),
     }
 }
 
 // Here the answer is the place alone.
 fn record_start(rt: &impl Print, bytes: &[u8], place: usize) -> io::Result<()> {
-    telling::place(rt, host::read::packed_refs_record_start(bytes, place))
+    print!(rt; " {}", host::read::packed_refs_record_start(bytes, place))
 }
 
 fn lookup(rt: &impl Print, kind: u32, body: &[u8], name: &[u8]) -> io::Result<()> {
     let r = host::read::packed_refs_lookup(kind, body, name);
-    let n = r.number;
-    telling::number(rt, n)?;
-    match n {
+    print!(rt; " {}", r.number)?;
+    match r.number {
         0 => record(rt, r.place, r.name_at, r.name_len, r.peeled_at),
-        _ => telling::refusal(rt, n, r.place, 0),
+        n => telling::refusal(rt, n, r.place, 0),
     }
 }
 
 fn trusted(rt: &impl Print, kind: u32, file: &[u8], name: &[u8]) -> io::Result<()> {
     let r = host::read::packed_refs_ask(kind, file, name);
-    let n = r.number;
-    telling::number(rt, n)?;
-    match n {
+    print!(rt; " {}", r.number)?;
+    match r.number {
         0 => {
             record(rt, r.place, r.name_at, r.name_len, r.peeled_at)?;
-            telling::number(rt, r.fault)
+            print!(rt; " {}", r.fault)
         },
-        _ => telling::file_refusal(rt, n, r.place, r.line, r.text_len),
+        n => telling::file_refusal(rt, n, r.place, r.line, r.text_len),
     }
 }
 
 fn loose(rt: &impl Print, kind: u32, content: &[u8]) -> io::Result<()> {
     let r = host::read::packed_refs_loose(kind, content);
-    telling::number(rt, r.number)?;
-    if r.number == 0 {
-        telling::number(rt, r.what)?;
-        telling::place(rt, r.at)?;
-        telling::place(rt, r.len)?;
+    print!(rt; " {}", r.number)?;
+    match r.number {
+        0 => print!(rt; " {} {} {}", r.what, r.at, r.len),
+        _ => Ok(()),
     }
-    Ok(())
 }

@@ -11,43 +11,28 @@ mod telling;
 
 ghost use Rattle.std.specs.Prelude.{◌≤◌, length, IfOk};
 
+use question::{Line, Lines, Said};
 use std::fs::File;
 use std::io;
 use std::io::Read;
 
-// The file has to leave a byte free: a full array would not show whether all of the file was read.
-fn file_space() -> [u8; 2097152] {
-    [0u8; 2097152]
-}
-
-// Answers the question at a place, or passes over the comment there, and gives the place behind it.
-fn answer(rt: &impl Print, file: &[u8], at: usize) -> io::Result<usize> {
-    let q = question::read(file, at);
-    telling::text(rt, parse::part::between(file, at, q.a))?;
-    if q.letter == b'#' {
-        return Ok(q.next);
+// Answers a question, or passes over a comment.
+fn answer(rt: &impl Print, line: Line) -> io::Result<()> {
+    telling::text(rt, line.text)?;
+    match line.said {
+        Said::Comment => Ok(()),
+        Said::Question(q) => {
+            telling::text(rt, b"=")?;
+            asking::ask(rt, q)?;
+            telling::text(rt, b"\n")
+        },
+        Said::Unreadable => telling::text(rt, b"= not a question\n"),
     }
-    let a = parse::part::between(file, q.a, q.b);
-    let b = parse::part::between(file, q.b, q.end);
-    telling::text(rt, b"=")?;
-    if q.letter == b'm' {
-        merging::merge(rt, q, a, b)?;
-    } else {
-        asking::ask(rt, q, a, b)?;
-    }
-    telling::text(rt, b"\n")?;
-    Ok(q.next)
 }
 
 fn replay(rt: &impl Print, file: &[u8]) -> io::Result<()> {
-    let mut at = 0;
-    while at < file.len() {
-        let next = answer(rt, file, at)?;
-        // What stood still would be asked again and again.
-        if next <= at {
-            break;
-        }
-        at = next;
+    for line in (Lines { file, rest: file }) {
+        answer(rt, line)?;
     }
     Ok(())
 }
@@ -58,17 +43,17 @@ fn read_full(source: &mut impl Read, file: &mut [u8]) -> io::Result<usize>
 {
     let mut done = 0;
     while done < file.len() {
-        let n = source.read(&mut file[done..])?;
-        if n == 0 {
-            break;
+        match source.read(&mut file[done..])? {
+            0 => break,
+            n => done += n,
         }
-        done += n;
     }
     Ok(done)
 }
 
 fn read_and_replay(rt: &impl Print, source: &mut impl Read, file: &mut [u8]) -> io::Result<()> {
     let n = read_full(source, file)?;
+    // The file has to leave a byte free: a full array would not show whether all of the file was read.
     if n == file.len() {
         return telling::text(rt, b"questions: too long a file\n");
     }
@@ -83,9 +68,9 @@ fn lend(rt: &impl Print, source: &mut impl Read, file: &mut [u8; 2097152]) -> io
 fn main(rt: HostRuntime) -> io::Result<()> {
     let path = "questions";
     match File::open(&rt, path) {
-        Ok(source) => {
-            let mut source = source;
-            let mut file = file_space();
+        Ok(mut source) => {
+            // Fixed memory: nothing here allocates.
+            let mut file = [0; 2097152];
             lend(&rt, &mut source, &mut file)
         },
         Err(e) => eprintln!(rt; "{path}: {e}"),

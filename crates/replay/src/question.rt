@@ -1,126 +1,193 @@
-// Reading a question. Its line has a letter, the id kind, the lengths of the bytes that it lends, two numbers, and what a reader may find it by. The
-// bytes stand behind that line, and an LF behind them.
+// Reading the questions. A question's line has a letter, the id kind, the lengths of the bytes that it lends, two numbers, and what a reader may find it
+// by. The bytes stand behind that line, and an LF behind them.
+ghost use Rattle.std.specs.Prelude.{◌<◌, ◌≤◌, length};
+ghost use Rattle.std.specs.Iterator.{at_most};
+
+// What is asked, with the numbers that it takes.
+#[derive(Clone, Copy)]
+pub(crate) enum Asks {
+    Header,
+    Name,
+    Iteration,
+    Step { place: usize },
+    Walk { place: usize, line: u64 },
+    Check,
+    RecordStart { place: usize },
+    Lookup,
+    Prefix,
+    Trusted,
+    Loose,
+    Merge { index_len: usize, out_len: usize },
+}
+
+impl Asks {
+    // What a letter asks, where there is such a letter.
+    fn read(letter: u8, first: u64, second: u64) -> Option<Asks> {
+        let place = first as usize;
+        let asks = match letter {
+            b'h' => Asks::Header,
+            b'n' => Asks::Name,
+            b'i' => Asks::Iteration,
+            b't' => Asks::Step { place },
+            b'w' => Asks::Walk {
+                place,
+                line: second,
+            },
+            b'c' => Asks::Check,
+            b's' => Asks::RecordStart { place },
+            b'f' => Asks::Lookup,
+            b'p' => Asks::Prefix,
+            b'a' => Asks::Trusted,
+            b'l' => Asks::Loose,
+            b'm' => Asks::Merge {
+                index_len: place,
+                out_len: second as usize,
+            },
+            _ => return None,
+        };
+        Some(asks)
+    }
+}
 
 #[derive(Clone, Copy)]
-pub(crate) struct Question {
-    // `?` where the line is neither a question nor a comment.
-    pub letter: u8,
+pub(crate) struct Question<'a> {
+    pub asks: Asks,
     pub kind: u32,
-    // Where the bytes that are lent first start, which is behind the line; where those that are lent second start, and where they end.
-    pub a: usize,
-    pub b: usize,
-    pub end: usize,
-    // Behind the LF that ends the question.
-    pub next: usize,
-    pub first: usize,
-    pub second: usize,
+    // The bytes that are lent first, and those that are lent second.
+    pub a: &'a [u8],
+    pub b: &'a [u8],
 }
 
-// A number, and the place behind it: 0 where there is none.
 #[derive(Clone, Copy)]
-struct Decimal {
-    value: u64,
-    next: usize,
+pub(crate) enum Said<'a> {
+    Comment,
+    Question(Question<'a>),
+    // Neither a question nor a comment.
+    Unreadable,
 }
 
-pub(crate) fn read(file: &[u8], at: usize) -> Question {
-    let a = parse::line::line_end(file, at);
-    if file.len() <= at {
-        return no_question(b'?', a);
+#[derive(Clone, Copy)]
+pub(crate) struct Line<'a> {
+    // The line as it stands, with its LF.
+    pub text: &'a [u8],
+    pub said: Said<'a>,
+}
+
+// The comments and questions of a file that are left.
+#[derive(Drop)]
+pub(crate) struct Lines<'a> {
+    pub file: &'a [u8],
+    pub rest: &'a [u8],
+}
+
+impl<'a> Iterator for Lines<'a> {
+    type Item = Line<'a>;
+
+    ghost remaining = { λ s. at_most (length s.rest.now) };
+
+    fn next(&mut self) -> Option<Line<'a>> {
+        let (letter, numbers) = self.rest.split_first()?;
+        let (text, behind) = through_line_end(self.rest);
+        let (said, rest) = read(*letter, Numbers::read(self.file, numbers), behind);
+        self.rest = rest;
+        Some(Line { text, said })
     }
-    let letter = file[at];
-    let kind = number(file, at + 1);
-    let a_len = number(file, kind.next);
-    let b_len = number(file, a_len.next);
-    let first = number(file, b_len.next);
-    let second = number(file, first.next);
+}
+
+// What a line of a letter and numbers says, and what stands behind the bytes that it lends, which stand behind the line.
+fn read<'a>(letter: u8, numbers: Option<Numbers>, behind: &'a [u8]) -> (Said<'a>, &'a [u8])
+    ensures { length result.1.now ≤ length behind.now }
+{
     if letter == b'#' {
-        return no_question(letter, a);
+        return (Said::Comment, behind);
     }
-    if second.next == 0 {
-        return no_question(b'?', a);
-    }
-    if 2 < kind.value {
-        return no_question(b'?', a);
-    }
-    let b = behind(file, a, a_len.value as usize);
-    let end = behind(file, b, b_len.value as usize);
-    Question {
-        letter,
-        kind: kind.value as u32,
-        a,
-        b,
-        end,
-        next: parse::line::line_end(file, end),
-        first: first.value as usize,
-        second: second.value as usize,
-    }
+    let Some(n) = numbers else {
+        return (Said::Unreadable, behind);
+    };
+    let (a, rest) = front(behind, n.a_len as usize);
+    let (b, rest) = front(rest, n.b_len as usize);
+    let (_, rest) = through_line_end(rest);
+    let said = match Asks::read(letter, n.first, n.second) {
+        Some(asks) => Said::Question(Question {
+            asks,
+            kind: n.kind,
+            a,
+            b,
+        }),
+        None => Said::Unreadable,
+    };
+    (said, rest)
 }
 
-// A line alone.
-fn no_question(letter: u8, next: usize) -> Question {
-    Question {
-        letter,
-        kind: 0,
-        a: next,
-        b: next,
-        end: next,
-        next,
-        first: 0,
-        second: 0,
-    }
+// The numbers of a question's line.
+#[derive(Clone, Copy)]
+struct Numbers {
+    kind: u32,
+    a_len: u64,
+    b_len: u64,
+    first: u64,
+    second: u64,
 }
 
-// So many bytes behind a place, or the end.
-fn behind(file: &[u8], at: usize, n: usize) -> usize {
-    if file.len() < at {
-        return at;
-    }
-    if file.len() - at < n {
-        return file.len();
-    }
-    at + n
-}
-
-// A space and a number. `from` is 0 where the number before it was missing; no space stands there, so this one is missing, too.
-fn number(file: &[u8], from: usize) -> Decimal {
-    if file.len() <= from {
-        return no_decimal();
-    }
-    if file[from] != b' ' {
-        return no_decimal();
-    }
-    digits(file, from + 1)
-}
-
-fn no_decimal() -> Decimal {
-    Decimal { value: 0, next: 0 }
-}
-
-// The decimal digits from a place on. A number over the largest stops before the digit that would make it so, or wraps at the last.
-fn digits(file: &[u8], from: usize) -> Decimal {
-    let mut at = from;
-    let mut value = 0;
-    while at < file.len() {
-        let b = file[at];
-        if b < b'0' {
-            break;
+impl Numbers {
+    // The numbers in front of s. Where one is missing, it is 0, and the next is read at the start of the file: there is none but in a file that begins with
+    // a space, so all are missing.
+    fn read(file: &[u8], s: &[u8]) -> Option<Numbers> {
+        let (kind, rest) = number(s).unwrap_or((0, file));
+        let (a_len, rest) = number(rest).unwrap_or((0, file));
+        let (b_len, rest) = number(rest).unwrap_or((0, file));
+        let (first, rest) = number(rest).unwrap_or((0, file));
+        let (second, _) = number(rest)?;
+        if 2 < kind {
+            return None;
         }
-        if b'9' < b {
-            break;
-        }
+        Some(Numbers {
+            kind: kind as u32,
+            a_len,
+            b_len,
+            first,
+            second,
+        })
+    }
+}
+
+// A space and a number, and what stands behind them.
+fn number(s: &[u8]) -> Option<(u64, &[u8])> {
+    match s {
+        [b' ', rest @ ..] => digits(rest),
+        _ => None,
+    }
+}
+
+// The decimal digits in front, and what stands behind them. A number over the largest stops before the digit that would make it so, or wraps at the last.
+fn digits(s: &[u8]) -> Option<(u64, &[u8])> {
+    let mut value: u64 = 0;
+    let mut rest = s;
+    while let [digit @ b'0'..=b'9', behind @ ..] = rest {
         if 1844674407370955161 < value {
             break;
         }
-        value = std::num::wrapping_add_u64(value * 10, wide(b - b'0'));
-        at += 1;
+        value = (value * 10).wrapping_add(u64::from(*digit - b'0'));
+        rest = behind;
     }
-    if at == from {
-        return no_decimal();
+    if rest.len() == s.len() {
+        return None;
     }
-    Decimal { value, next: at }
+    Some((value, rest))
 }
 
-fn wide(b: u8) -> u64 {
-    b as u64
+// A line with its LF, or all where there is none, and what stands behind it.
+fn through_line_end(s: &[u8]) -> (&[u8], &[u8])
+    ensures shrinks { 0 < length s.now → length result.1.now < length s.now }
+    ensures bound { length result.1.now ≤ length s.now }
+{
+    front(s, parse::line::line_end(s, 0))
+}
+
+// So many bytes in front, or all where there are fewer, and what stands behind them.
+fn front(s: &[u8], n: usize) -> (&[u8], &[u8])
+    ensures shrinks { 0 < n → 0 < length s.now → length result.1.now < length s.now }
+    ensures bound { length result.1.now ≤ length s.now }
+{
+    s.split_at(n.min(s.len()))
 }

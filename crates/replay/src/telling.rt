@@ -5,26 +5,13 @@ pub(crate) fn text(rt: &impl Print, t: &[u8]) -> io::Result<()> {
     rt.write_all(t)
 }
 
-pub(crate) fn count(rt: &impl Print, n: u64) -> io::Result<()> {
-    text(rt, b" ")?;
-    rt.print(n)
-}
-
-pub(crate) fn number(rt: &impl Print, n: u32) -> io::Result<()> {
-    count(rt, n as u64)
-}
-
-pub(crate) fn place(rt: &impl Print, n: usize) -> io::Result<()> {
-    count(rt, n as u64)
-}
-
 // What stands beside the number of a refusal: beside 2 its text's length, beside these nothing, beside any other its place. So a number that is new
 // here is told with its place.
 pub(crate) fn refusal(rt: &impl Print, number: u32, at: usize, text_len: usize) -> io::Result<()> {
     match number {
-        2 => place(rt, text_len),
+        2 => print!(rt; " {text_len}"),
         1 | 3 | 4 | 5 | 10 | 12 | 13 | 14 | 15 | 16 | 17 => Ok(()),
-        _ => place(rt, at),
+        _ => print!(rt; " {at}"),
     }
 }
 
@@ -38,10 +25,7 @@ pub(crate) fn file_refusal(
 ) -> io::Result<()> {
     refusal(rt, number, at, text_len)?;
     match number {
-        41 | 42 | 43 | 44 | 45 => {
-            count(rt, line)?;
-            place(rt, text_len)
-        },
+        41..=45 => print!(rt; " {line} {text_len}"),
         _ => Ok(()),
     }
 }

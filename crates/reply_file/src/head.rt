@@ -1,13 +1,13 @@
 // The header of a file, and the rules of a name.
 ghost use Rattle.std.specs.Prelude.{◌≡◌};
-ghost use Rattle.parse.specs.Choice.{if};
 ghost use Rattle.header.specs.Header.{header_answer};
-ghost use Rattle.reply_file.specs.Head.{header_reply, header_gives, peeled_number, name_number};
+ghost use Rattle.reply_file.specs.Head.{header_reply, name_number};
 
-use header::{HeaderAnswer, Opened, Peeled};
+use header::{BadHeader, Header};
+use parse::limit::TooLarge;
 
 #[repr(C)]
-#[derive(Clone, Copy)]
+#[derive(Clone, Copy, Default)]
 pub struct HeaderReply {
     pub number: u32,
     // 0 unspecified, 1 partial, 2 fully.
@@ -25,54 +25,38 @@ pub fn header_reply(file: &[u8]) -> HeaderReply
     header_told(header::read_header(file))
 }
 
-fn header_told(answer: HeaderAnswer) -> HeaderReply
+fn header_told(answer: Result<Result<Header, BadHeader>, TooLarge>) -> HeaderReply
     ensures { result ≡ header_reply answer }
 {
     match answer {
-        HeaderAnswer::Done(said) => match said {
-            Opened::Header(h) => {
-                let peeled = h.peeled;
-                header_gives(0, peeled_number(peeled), flag(h.sorted), h.body, 0)
-            }
-            Opened::Unreadable(text) => header_gives(2, 0, 0, 0, text),
+        Ok(
+            Ok(
+                Header {
+                    peeled,
+                    sorted,
+                    body,
+                },
+            ),
+        ) => HeaderReply {
+            peeled: peeled as u32,
+            sorted: u32::from(sorted),
+            place: body,
+            ..HeaderReply::default()
         },
-        HeaderAnswer::TooLarge => header_gives(17, 0, 0, 0, 0),
+        Ok(Err(BadHeader { text })) => HeaderReply {
+            number: 2,
+            text_len: text,
+            ..HeaderReply::default()
+        },
+        Err(TooLarge) => HeaderReply {
+            number: 17,
+            ..HeaderReply::default()
+        },
     }
 }
 
-fn header_gives(number: u32, peeled: u32, sorted: u32, place: usize, text: usize) -> HeaderReply
-    ensures { result ≡ header_gives number peeled sorted place text }
-{
-    HeaderReply {
-        number,
-        peeled,
-        sorted,
-        place,
-        text_len: text,
-    }
-}
-
-// 0 unspecified, 1 partial, 2 fully.
-fn peeled_number(peeled: Peeled) -> u32
-    ensures { result ≡ peeled_number peeled }
-{
-    match peeled {
-        Peeled::Unspecified => 0,
-        Peeled::Partial => 1,
-        Peeled::Fully => 2,
-    }
-}
-
-fn flag(b: bool) -> u32
-    ensures { result ≡ if b 1 0 }
-{
-    if b {
-        return 1;
-    }
-    0
-}
-
-// The number alone: 0 for a valid name, 3 for another, 17.
+// The number alone, as C is given it; no enum stands behind it: 0 for a valid name, 3 for another, 17.
+#[tactic(auto, unfolding(crate::specs::Head::name_number))]
 pub fn name_number(name: &[u8]) -> u32
     ensures { result ≡ name_number name.now }
 {

@@ -1,12 +1,13 @@
 // The check of a whole file.
 ghost use Rattle.std.specs.Prelude.{◌≡◌};
 ghost use Rattle.checks.specs.Check.{check_answer};
-ghost use Rattle.reply_file.specs.Verdict.{check_reply, check_gives};
+ghost use Rattle.reply_file.specs.Verdict.{check_reply};
 
-use checks::{CheckAnswer, Verdict};
+use checks::Verdict;
+use parse::limit::NotAdmitted;
 
 #[repr(C)]
-#[derive(Clone, Copy)]
+#[derive(Clone, Copy, Default)]
 pub struct CheckReply {
     pub number: u32,
     // Where the item of numbers 41 to 45 and 6 starts.
@@ -25,30 +26,27 @@ pub fn check_reply(kind: u32, file: &[u8]) -> CheckReply
     check_told(file, checks::check(kind, file))
 }
 
-fn check_told(file: &[u8], answer: CheckAnswer) -> CheckReply
+fn check_told(file: &[u8], answer: Result<Verdict, NotAdmitted>) -> CheckReply
     ensures { result ≡ check_reply file.now answer }
 {
     match answer {
-        CheckAnswer::Done(verdict) => match verdict {
-            Verdict::Clean(count) => check_gives(0, 0, 0, count, 0),
-            Verdict::Refused(why) => {
-                let told = tell::refusal(file, why);
-                check_gives(told.number, told.place, told.line, 0, told.text_len)
-            }
+        Ok(Ok(count)) => CheckReply {
+            count,
+            ..CheckReply::default()
         },
-        CheckAnswer::UnknownKind => check_gives(1, 0, 0, 0, 0),
-        CheckAnswer::TooLarge => check_gives(17, 0, 0, 0, 0),
-    }
-}
-
-fn check_gives(number: u32, place: usize, line: u64, count: usize, text: usize) -> CheckReply
-    ensures { result ≡ check_gives number place line count text }
-{
-    CheckReply {
-        number,
-        place,
-        line,
-        count,
-        text_len: text,
+        Ok(Err(why)) => {
+            let told = tell::refusal(file, why);
+            CheckReply {
+                number: told.number,
+                place: told.place,
+                line: told.line,
+                text_len: told.text_len,
+                ..CheckReply::default()
+            }
+        }
+        Err(why) => CheckReply {
+            number: why as u32,
+            ..CheckReply::default()
+        },
     }
 }

@@ -3,14 +3,15 @@ ghost use Rattle.std.specs.Prelude.{◌≡◌};
 ghost use Rattle.start.specs.Start.{start_answer};
 ghost use Rattle.iter.specs.Step.{plain_answer, prefix_answer};
 ghost use Rattle.walker.specs.Walk.{walk_answer};
-ghost use Rattle.reply_file.specs.Walk.{start_reply, start_gives, step_reply, walk_reply, step_told, step_gives, StepNear};
+ghost use Rattle.reply_file.specs.Walk.{start_reply, step_reply, walk_reply, step_told, StepNear};
 
-use iter::step::{Step, StepAnswer};
-use start::{Start, StartAnswer};
-use tell::Parts;
+use header::BadHeader;
+use iter::step::Step;
+use parse::limit::NotAdmitted;
+use start::Start;
 
 #[repr(C)]
-#[derive(Clone, Copy)]
+#[derive(Clone, Copy, Default)]
 pub struct StartReply {
     pub number: u32,
     // Behind the header.
@@ -27,32 +28,29 @@ pub fn start_reply(kind: u32, file: &[u8]) -> StartReply
     start_told(start::begin(kind, file))
 }
 
-fn start_told(answer: StartAnswer) -> StartReply
+fn start_told(answer: Result<Result<Start, BadHeader>, NotAdmitted>) -> StartReply
     ensures { result ≡ start_reply answer }
 {
     match answer {
-        StartAnswer::Done(said) => match said {
-            Start::At { place, line } => start_gives(0, place, line, 0),
-            Start::BadHeader(text) => start_gives(2, 0, 0, text),
+        Ok(Ok(Start { place, line })) => StartReply {
+            place,
+            line,
+            ..StartReply::default()
         },
-        StartAnswer::UnknownKind => start_gives(1, 0, 0, 0),
-        StartAnswer::TooLarge => start_gives(17, 0, 0, 0),
-    }
-}
-
-fn start_gives(number: u32, place: usize, line: u64, text: usize) -> StartReply
-    ensures { result ≡ start_gives number place line text }
-{
-    StartReply {
-        number,
-        place,
-        line,
-        text_len: text,
+        Ok(Err(BadHeader { text })) => StartReply {
+            number: 2,
+            text_len: text,
+            ..StartReply::default()
+        },
+        Err(why) => StartReply {
+            number: why as u32,
+            ..StartReply::default()
+        },
     }
 }
 
 #[repr(C)]
-#[derive(Clone, Copy)]
+#[derive(Clone, Copy, Default)]
 pub struct StepReply {
     pub number: u32,
     // Beside number 0: 0 the end, 1 a record, 2 an error. A refusal has 0 here, too: look at the number first.
@@ -87,8 +85,7 @@ pub fn walk_reply(kind: u32, bytes: &[u8], place: usize, line: u64) -> StepReply
     ensures { result ≡ walk_reply kind place (walk_answer kind bytes.now place line) }
 {
     let walked = walker::walk(kind, bytes, place, line);
-    let answer = walked.answer;
-    step_told(kind, place, walked.line, answer)
+    step_told(kind, place, walked.line, walked.answer)
 }
 
 // The step with a prefix: no line is told.
@@ -104,57 +101,54 @@ pub fn prefix_step_reply(kind: u32, bytes: &[u8], prefix: &[u8], place: usize) -
 }
 
 // What an answer tells, with the line number that is handed on beside it. A refusal hands on nothing.
-fn step_told(kind: u32, place: usize, next_line: u64, answer: StepAnswer) -> StepReply
+fn step_told(
+    kind: u32,
+    place: usize,
+    next_line: u64,
+    answer: Result<Step, NotAdmitted>,
+) -> StepReply
     requires { StepNear place answer }
     ensures { result ≡ step_told kind place next_line answer }
 {
-    let none = tell::no_parts();
     match answer {
-        StepAnswer::Done(said) => match said {
-            Step::End { next } => step_gives(0, 0, 0, next, none, 0, 0, next_line, 0),
-            Step::Good { found, next } => {
-                let parts = tell::parts_at(kind, place, found);
-                step_gives(0, 1, place, next, parts, 0, 0, next_line, 0)
+        Ok(Step::End { next }) => StepReply {
+            next,
+            next_line,
+            ..StepReply::default()
+        },
+        Ok(Step::Good { found, next }) => {
+            let parts = tell::parts_at(kind, place, found);
+            StepReply {
+                what: 1,
+                start: place,
+                next,
+                name_at: parts.name_at,
+                name_len: parts.name_len,
+                peeled_at: parts.peeled_at,
+                next_line,
+                ..StepReply::default()
             }
+        }
+        Ok(
             Step::Error {
                 fault,
                 line,
                 text,
                 next,
-            } => {
-                let why = tell::fault_number(fault);
-                step_gives(0, 2, place, next, none, why, line, next_line, text)
-            }
+            },
+        ) => StepReply {
+            what: 2,
+            start: place,
+            next,
+            why: tell::fault_number(fault),
+            line,
+            next_line,
+            text_len: text,
+            ..StepReply::default()
         },
-        StepAnswer::UnknownKind => step_gives(1, 0, 0, 0, none, 0, 0, 0, 0),
-        StepAnswer::TooLarge => step_gives(17, 0, 0, 0, none, 0, 0, 0, 0),
-    }
-}
-
-fn step_gives(
-    number: u32,
-    what: u32,
-    start: usize,
-    next: usize,
-    parts: Parts,
-    why: u32,
-    line: u64,
-    next_line: u64,
-    text: usize,
-) -> StepReply
-    ensures { result ≡ step_gives number what start next parts why line next_line text }
-{
-    StepReply {
-        number,
-        what,
-        start,
-        next,
-        name_at: parts.name_at,
-        name_len: parts.name_len,
-        peeled_at: parts.peeled_at,
-        why,
-        line,
-        next_line,
-        text_len: text,
+        Err(why) => StepReply {
+            number: why as u32,
+            ..StepReply::default()
+        },
     }
 }

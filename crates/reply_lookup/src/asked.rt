@@ -1,13 +1,14 @@
 // The lookup that can be trusted on any bytes.
 ghost use Rattle.std.specs.Prelude.{◌≡◌};
 ghost use Rattle.ask.specs.Ask.{ask_answer};
+ghost use Rattle.tell.specs.Told.{no_parts};
 ghost use Rattle.reply_lookup.specs.Asked.{ask_reply, AskNear, ask_gives};
 
-use ask::{AskAnswer, Told};
-use tell::Parts;
+use ask::Told;
+use parse::limit::NotAdmitted;
 
 #[repr(C)]
-#[derive(Clone, Copy)]
+#[derive(Clone, Copy, Default)]
 pub struct AskReply {
     pub number: u32,
     // Where the record starts, or the item of numbers 41 to 45 and 6.
@@ -30,51 +31,50 @@ pub fn ask_reply(kind: u32, file: &[u8], name: &[u8]) -> AskReply
     ask_told(kind, file, ask::ask(kind, file, name))
 }
 
-fn ask_told(kind: u32, file: &[u8], answer: AskAnswer) -> AskReply
+fn ask_told(kind: u32, file: &[u8], answer: Result<Told, NotAdmitted>) -> AskReply
     requires { AskNear answer }
     ensures { result ≡ ask_reply kind file.now answer }
 {
-    let none = tell::no_parts();
     match answer {
-        AskAnswer::Done(said) => match said {
+        Ok(
             Told::Charted {
                 place,
                 found,
                 verdict,
-            } => {
-                let parts = tell::parts_at(kind, place, found);
-                ask_gives(0, place, 0, parts, 0, tell::verdict_number(verdict))
+            },
+        ) => {
+            let parts = tell::parts_at(kind, place, found);
+            AskReply {
+                place,
+                name_at: parts.name_at,
+                name_len: parts.name_len,
+                peeled_at: parts.peeled_at,
+                fault: tell::verdict_number(verdict),
+                ..AskReply::default()
             }
-            Told::Absent => ask_gives(5, 0, 0, none, 0, 0),
-            Told::BadName => ask_gives(3, 0, 0, none, 0, 0),
-            Told::Refused(why) => {
-                let told = tell::refusal(file, why);
-                ask_gives(told.number, told.place, told.line, none, told.text_len, 0)
+        }
+        Ok(Told::Absent) => numbered(5),
+        Ok(Told::BadName) => numbered(3),
+        Ok(Told::Refused(why)) => {
+            let told = tell::refusal(file, why);
+            AskReply {
+                number: told.number,
+                place: told.place,
+                line: told.line,
+                text_len: told.text_len,
+                ..AskReply::default()
             }
-        },
-        AskAnswer::UnknownKind => ask_gives(1, 0, 0, none, 0, 0),
-        AskAnswer::TooLarge => ask_gives(17, 0, 0, none, 0, 0),
+        }
+        Err(why) => numbered(why as u32),
     }
 }
 
-fn ask_gives(
-    number: u32,
-    place: usize,
-    line: u64,
-    parts: Parts,
-    text: usize,
-    fault: u32,
-) -> AskReply
-    ensures { result ≡ ask_gives number place line parts text fault }
+// A number alone.
+fn numbered(number: u32) -> AskReply
+    ensures { result ≡ ask_gives number 0 0 no_parts 0 0 }
 {
     AskReply {
         number,
-        place,
-        line,
-        name_at: parts.name_at,
-        name_len: parts.name_len,
-        peeled_at: parts.peeled_at,
-        text_len: text,
-        fault,
+        ..AskReply::default()
     }
 }

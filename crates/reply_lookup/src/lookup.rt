@@ -1,13 +1,14 @@
 // Lookup of one name in a checked body.
 ghost use Rattle.std.specs.Prelude.{◌≡◌};
 ghost use Rattle.find.specs.Lookup.{lookup_answer};
+ghost use Rattle.tell.specs.Told.{no_parts};
 ghost use Rattle.reply_lookup.specs.Lookup.{lookup_reply, LookupNear, lookup_gives};
 
-use find::lookup::{Lookup, LookupAnswer};
-use tell::Parts;
+use find::lookup::Lookup;
+use parse::limit::NotAdmitted;
 
 #[repr(C)]
-#[derive(Clone, Copy)]
+#[derive(Clone, Copy, Default)]
 pub struct LookupReply {
     pub number: u32,
     // Where the record starts that was hit, which is where its id stands: beside 0, 41 and 45.
@@ -24,36 +25,36 @@ pub fn lookup_reply(kind: u32, body: &[u8], name: &[u8]) -> LookupReply
     lookup_told(kind, find::lookup::find(kind, body, name))
 }
 
-fn lookup_told(kind: u32, answer: LookupAnswer) -> LookupReply
+fn lookup_told(kind: u32, answer: Result<Lookup, NotAdmitted>) -> LookupReply
     requires { LookupNear answer }
     ensures { result ≡ lookup_reply kind answer }
 {
-    let none = tell::no_parts();
     match answer {
-        LookupAnswer::Done(said) => match said {
-            Lookup::Charted { place, found } => {
-                lookup_gives(0, place, tell::parts_at(kind, place, found))
+        Ok(Lookup::Charted { place, found }) => {
+            let parts = tell::parts_at(kind, place, found);
+            LookupReply {
+                number: 0,
+                place,
+                name_at: parts.name_at,
+                name_len: parts.name_len,
+                peeled_at: parts.peeled_at,
             }
-            Lookup::BadRecord { place, fault } => {
-                lookup_gives(tell::fault_number(fault), place, none)
-            }
-            Lookup::Unsure => lookup_gives(4, 0, none),
-            Lookup::Absent => lookup_gives(5, 0, none),
-            Lookup::BadName => lookup_gives(3, 0, none),
-        },
-        LookupAnswer::UnknownKind => lookup_gives(1, 0, none),
-        LookupAnswer::TooLarge => lookup_gives(17, 0, none),
+        }
+        Ok(Lookup::BadRecord { place, fault }) => refused(tell::fault_number(fault), place),
+        Ok(Lookup::Unsure) => refused(4, 0),
+        Ok(Lookup::Absent) => refused(5, 0),
+        Ok(Lookup::BadName) => refused(3, 0),
+        Err(why) => refused(why as u32, 0),
     }
 }
 
-fn lookup_gives(number: u32, place: usize, parts: Parts) -> LookupReply
-    ensures { result ≡ lookup_gives number place parts }
+// A number with a place beside it, or 0.
+fn refused(number: u32, place: usize) -> LookupReply
+    ensures { result ≡ lookup_gives number place no_parts }
 {
     LookupReply {
         number,
         place,
-        name_at: parts.name_at,
-        name_len: parts.name_len,
-        peeled_at: parts.peeled_at,
+        ..LookupReply::default()
     }
 }

@@ -1,12 +1,13 @@
 // Where the listing of a prefix starts.
 ghost use Rattle.std.specs.Prelude.{◌≡◌};
 ghost use Rattle.find.specs.PrefixStart.{prefix_start_answer};
-ghost use Rattle.reply_lookup.specs.Prefix.{prefix_reply, prefix_gives};
+ghost use Rattle.reply_lookup.specs.Prefix.{prefix_reply};
 
-use find::prefix_start::{PrefixStart, PrefixStartAnswer};
+use find::prefix_start::BadStart;
+use parse::limit::NotAdmitted;
 
 #[repr(C)]
-#[derive(Clone, Copy)]
+#[derive(Clone, Copy, Default)]
 pub struct PrefixReply {
     pub number: u32,
     // The place that the first step is given.
@@ -22,26 +23,23 @@ pub fn prefix_reply(kind: u32, body: &[u8], prefix: &[u8]) -> PrefixReply
     prefix_told(find::prefix_start::begin(kind, body, prefix))
 }
 
-fn prefix_told(answer: PrefixStartAnswer) -> PrefixReply
+fn prefix_told(answer: Result<Result<usize, BadStart>, NotAdmitted>) -> PrefixReply
     ensures { result ≡ prefix_reply answer }
 {
     match answer {
-        PrefixStartAnswer::Done(said) => match said {
-            PrefixStart::From { place } => prefix_gives(0, place, 0, 0),
-            PrefixStart::BadHeader { place, text } => prefix_gives(2, 0, place, text),
+        Ok(Ok(place)) => PrefixReply {
+            place,
+            ..PrefixReply::default()
         },
-        PrefixStartAnswer::UnknownKind => prefix_gives(1, 0, 0, 0),
-        PrefixStartAnswer::TooLarge => prefix_gives(17, 0, 0, 0),
-    }
-}
-
-fn prefix_gives(number: u32, place: usize, at: usize, text: usize) -> PrefixReply
-    ensures { result ≡ prefix_gives number place at text }
-{
-    PrefixReply {
-        number,
-        place,
-        text_at: at,
-        text_len: text,
+        Ok(Err(BadStart { place, text })) => PrefixReply {
+            number: 2,
+            text_at: place,
+            text_len: text,
+            ..PrefixReply::default()
+        },
+        Err(why) => PrefixReply {
+            number: why as u32,
+            ..PrefixReply::default()
+        },
     }
 }

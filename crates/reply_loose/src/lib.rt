@@ -5,10 +5,11 @@ ghost use Rattle.std.specs.Prelude.{◌≡◌};
 ghost use Rattle.loose.specs.Loose.{loose_answer};
 ghost use Rattle.reply_loose.specs.Loose.{loose_reply, loose_gives};
 
-use loose::{Loose, LooseAnswer};
+use loose::{Loose, LooseFault};
+use parse::limit::NotAdmitted;
 
 #[repr(C)]
-#[derive(Clone, Copy)]
+#[derive(Clone, Copy, Default)]
 pub struct LooseReply {
     pub number: u32,
     // 1 an id, 2 the name of another reference, 0 beside a refusal.
@@ -24,28 +25,32 @@ pub fn loose_reply(kind: u32, content: &[u8]) -> LooseReply
     loose_told(loose::read(kind, content))
 }
 
-fn loose_told(answer: LooseAnswer) -> LooseReply
+fn loose_told(answer: Result<Result<Loose, LooseFault>, NotAdmitted>) -> LooseReply
     ensures { result ≡ loose_reply answer }
 {
     match answer {
-        LooseAnswer::Done(said) => match said {
-            Loose::Id(n) => gives(0, 1, 0, n),
-            Loose::Symbolic { from, len } => gives(0, 2, from, len),
-            Loose::Unreadable => gives(15, 0, 0, 0),
-            Loose::BadTarget => gives(16, 0, 0, 0),
+        Ok(Ok(Loose::Id(len))) => LooseReply {
+            what: 1,
+            len,
+            ..LooseReply::default()
         },
-        LooseAnswer::UnknownKind => gives(1, 0, 0, 0),
-        LooseAnswer::TooLarge => gives(17, 0, 0, 0),
+        Ok(Ok(Loose::Symbolic { from, len })) => LooseReply {
+            what: 2,
+            at: from,
+            len,
+            ..LooseReply::default()
+        },
+        Ok(Err(fault)) => refused(fault as u32),
+        Err(why) => refused(why as u32),
     }
 }
 
-fn gives(number: u32, what: u32, at: usize, len: usize) -> LooseReply
-    ensures { result ≡ loose_gives number what at len }
+// A number alone.
+fn refused(number: u32) -> LooseReply
+    ensures { result ≡ loose_gives number 0 0 0 }
 {
     LooseReply {
         number,
-        what,
-        at,
-        len,
+        ..LooseReply::default()
     }
 }

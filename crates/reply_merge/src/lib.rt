@@ -2,16 +2,14 @@
 #![tactic(auto)]
 
 ghost use Rattle.std.specs.Prelude.{◌≡◌, length};
-ghost use Rattle.edit.specs.Edit.{edit_fault_number};
 ghost use Rattle.merge.specs.Merge.{merge_answer, index_answer, output_after};
 ghost use Rattle.reply_merge.specs.Merge.{merge_reply, merge_gives};
 
-use edit::EditFault;
 use edits::list::ListFault;
-use merge::Merged;
+use merge::NotMerged;
 
 #[repr(C)]
-#[derive(Clone, Copy)]
+#[derive(Clone, Copy, Default)]
 pub struct MergeReply {
     pub number: u32,
     // Where the item of numbers 41 to 45 and 6 starts in the old file, or the edit of number 7, 8, 9 or 11 in the list.
@@ -38,47 +36,46 @@ pub fn merge_reply(
     merge_told(old, merge::merge(kind, old, edits, index, out))
 }
 
-fn merge_told(old: &[u8], merged: Merged) -> MergeReply
+fn merge_told(old: &[u8], merged: Result<usize, NotMerged>) -> MergeReply
     ensures { result ≡ merge_reply old.now merged }
 {
     match merged {
-        Merged::Done(len) => gives(0, 0, 0, len, 0),
-        Merged::UnknownKind => gives(1, 0, 0, 0, 0),
-        Merged::TooLarge => gives(17, 0, 0, 0, 0),
-        Merged::BadList(why) => match why {
-            ListFault::BadEdit { place, fault } => gives(edit_fault_number(fault), place, 0, 0, 0),
-            ListFault::TooMany(place) => gives(9, place, 0, 0, 0),
+        Ok(length) => MergeReply {
+            length,
+            ..MergeReply::default()
         },
-        Merged::ShortIndex => gives(10, 0, 0, 0, 0),
-        Merged::Twins(place) => gives(11, place as usize, 0, 0, 0),
-        Merged::Refused(why) => {
+        Err(NotMerged::UnknownKind) => refused(1, 0),
+        Err(NotMerged::TooLarge) => refused(17, 0),
+        Err(NotMerged::BadList(ListFault::BadEdit { place, fault })) => refused(
+            fault as u32,
+            place,
+        ),
+        Err(NotMerged::BadList(ListFault::TooMany(place))) => refused(9, place),
+        Err(NotMerged::ShortIndex) => refused(10, 0),
+        Err(NotMerged::Twins(place)) => refused(11, place as usize),
+        Err(NotMerged::Refused(why)) => {
             let told = tell::refusal(old, why);
-            gives(told.number, told.place, told.line, 0, told.text_len)
+            MergeReply {
+                number: told.number,
+                place: told.place,
+                line: told.line,
+                length: 0,
+                text_len: told.text_len,
+            }
         }
-        Merged::NothingToDo => gives(13, 0, 0, 0, 0),
-        Merged::NoRecord => gives(14, 0, 0, 0, 0),
-        Merged::ShortOutput => gives(12, 0, 0, 0, 0),
+        Err(NotMerged::NothingToDo) => refused(13, 0),
+        Err(NotMerged::NoRecord) => refused(14, 0),
+        Err(NotMerged::ShortOutput) => refused(12, 0),
     }
 }
 
-// The paper's number for an edit that can't be taken.
-fn edit_fault_number(fault: EditFault) -> u32
-    ensures { result ≡ edit_fault_number fault }
-{
-    match fault {
-        EditFault::Malformed => 7,
-        EditFault::BadName => 8,
-    }
-}
-
-fn gives(number: u32, place: usize, line: u64, len: usize, text: usize) -> MergeReply
-    ensures { result ≡ merge_gives number place line len text }
+// A number with a place beside it, or 0.
+fn refused(number: u32, place: usize) -> MergeReply
+    ensures { result ≡ merge_gives number place 0 0 0 }
 {
     MergeReply {
         number,
         place,
-        line,
-        length: len,
-        text_len: text,
+        ..MergeReply::default()
     }
 }

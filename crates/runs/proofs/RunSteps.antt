@@ -4,12 +4,12 @@ use mathlib.Core.List.{List, [], ◌∷◌}
 use Prim.Native.Nat.{ℕ, suc, ◌+◌}
 use native.Mathlib.Omega.{arith}
 use lib.ListN.{length, drop, length-append, length-drop}
-use Rattle.compare.specs.declared.order.Order.TheVariants.{Less, Equal, Greater}
 use Rattle.compare.specs.Order.{order_of}
 use Rattle.iter.specs.Items.{Item, name_of}
 use Rattle.parts.specs.Parts.{edit_name}
 use Rattle.runs.specs.Runs.{run, settles, at_end}
 use Rattle.runs.proofs.RunTurns.{runs_of, settles_le}
+use Rattle.std.specs.declared.cmp.Ordering.TheVariants.{Equal, Greater, Less}
 
 module _ (n : ℕ) (list : List ℕ) where
   pub runs_none : (place : ℕ) (l : List Item) → runs_of n list place l [] ≡ []

@@ -1,41 +1,33 @@
--- Whether there is an update or a run that is not empty, one edit after another.
-use mathlib.Core.Path.{◌≡◌, sym, ap, ◌∙◌}
-use mathlib.Core.Bool.{true, false, ◌&&◌}
-use mathlib.Core.List.{List}
-use Prim.Native.Nat.{ℕ, ◌+◌, ◌*◌, ◌≤◌, ◌<◌}
-use native.Mathlib.Numerals.{add-one}
+-- Whether there is an update or a run that is not empty: the test of each edit and its run, one after another.
+use mathlib.Core.Path.{◌≡◌, refl, sym, ap, ◌∙◌}
+use mathlib.Core.Bool.{Bool, true, false, ◌&&◌}
+use mathlib.Core.List.{List, [], ◌∷◌}
+use Prim.Native.Nat.{ℕ, ◌+◌}
 use native.Mathlib.Nat.{add-zero}
-use native.Mathlib.Omega.{arith}
 use lib.Dec.{eqb}
-use lib.ListN.{get_or, length, drop, drop_of_length-le}
-use lib.Seq.{drop-cons, drop-drop, get_or-drop}
-use borrow.Author.Tests.{eq-eqb, ne_eqb}
-use Rattle.runs.specs.Runs.{is_still}
+use lib.ListN.{drop}
+use lib.Seq.{drop-drop, get_or-drop}
+use Rattle.std.specs.List.{list_all, enumerate_from}
+use Rattle.parts.specs.Parts.{edit_kind}
+use Rattle.runs.specs.declared.Run.{Run}
+use Rattle.runs.specs.Runs.{run, run_at, is_still}
 
-module _ (list index marks : List ℕ) (j : ℕ) where
-  pub still_end : length index ≤ j → is_still list (drop j index) (drop (2 * j) marks) ≡ true
-  still_end h = rw (drop_of_length-le index h)
+module _ (list : List ℕ) (marks : List Run) where
+  -- the edit of the index's entry j, which stands at a place of the list, and its run leave every record
+  abbrev pub leaves : (entry : ℕ × ℕ) → Bool
+  leaves (j, place) = eqb (edit_kind list place) 0 && eqb (run_at marks j).start (run_at marks j).end
 
-  module _ (h : j < length index) where
-    next_marks : drop 2 (drop (2 * j) marks) ≡ drop (2 * (j + 1)) marks
-    next_marks = drop-drop 2 (2 * j) marks ∙ ap (λ k. drop k marks) (let e : 2 * j + 2 ≡ 2 * (j + 1) = omega arith in e)
+  both : (a b c d : Bool) → c ≡ d → (a && b) && c ≡ a && (b && d)
+  both true b c d e = ap (λ t. b && t) e
+  both false b c d e = refl
 
-    still_one : is_still list (drop j index) (drop (2 * j) marks)
-        ≡ eqb (get_or list (get_or index j 0) 0) 0 && (eqb (get_or marks (2 * j) 0) (get_or marks (2 * j + 1) 0) && is_still list (drop (j + 1) index) (drop (2 * (j + 1)) marks))
-    still_one =
-        let start = get_or-drop (2 * j) marks 0 0 ∙ ap (λ k. get_or marks k 0) (add-zero (2 * j)) in
-        let end = get_or-drop (2 * j) marks 1 0 in
-        let others = ap (λ k. drop k index) (sym (add-one j)) in
-        ap (λ l. is_still list l (drop (2 * j) marks)) (drop-cons index j 0 h)
-        ∙ (λ i. eqb (get_or list (get_or index j 0) 0) 0 && (eqb (start i) (end i) && is_still list (others i) (next_marks i)))
+  still_from : (j : ℕ) (ps : List ℕ) → list_all leaves (enumerate_from j ps) ≡ is_still list ps (drop j marks)
+  still_from j [] = refl
+  still_from j (p ∷ ps) =
+      let here : run_at (drop j marks) 0 ≡ run_at marks j = get_or-drop j marks 0 (run 0 0) ∙ ap (run_at marks) (add-zero j) in
+      both (eqb (edit_kind list p) 0) (eqb (run_at marks j).start (run_at marks j).end) _ _
+      (still_from (j + 1) ps ∙ ap (is_still list ps) (sym (drop-drop 1 j marks)))
+      ∙ ap (λ (r : Run). eqb (edit_kind list p) 0 && (eqb r.start r.end && is_still list ps (drop 1 (drop j marks)))) (sym here)
 
-    pub still_update : (get_or list (get_or index j 0) 0 ≡ 0 → ⊥) → is_still list (drop j index) (drop (2 * j) marks) ≡ false
-    still_update u = still_one ∙ rw (ne_eqb (get_or list (get_or index j 0) 0) 0 u)
-
-    module _ (d : get_or list (get_or index j 0) 0 ≡ 0) where
-      pub still_run : (get_or marks (2 * j) 0 ≡ get_or marks (2 * j + 1) 0 → ⊥) → is_still list (drop j index) (drop (2 * j) marks) ≡ false
-      still_run u = still_one ∙ rw (eq-eqb (get_or list (get_or index j 0) 0) 0 d, ne_eqb (get_or marks (2 * j) 0) (get_or marks (2 * j + 1) 0) u)
-
-      pub still_on : get_or marks (2 * j) 0 ≡ get_or marks (2 * j + 1) 0
-          → is_still list (drop j index) (drop (2 * j) marks) ≡ is_still list (drop (j + 1) index) (drop (2 * (j + 1)) marks)
-      still_on e = still_one ∙ rw (eq-eqb (get_or list (get_or index j 0) 0) 0 d, eq-eqb (get_or marks (2 * j) 0) (get_or marks (2 * j + 1) 0) e)
+  pub still_is : (ps : List ℕ) → list_all leaves (enumerate_from 0 ps) ≡ is_still list ps marks
+  still_is = still_from 0

@@ -1,29 +1,36 @@
 // The one pass over the old records: the check, and for each edit the run of old bytes that it replaces.
 #![tactic(auto)]
 
-ghost use Rattle.std.specs.Prelude.{◌≡◌, ◌∷◌, [], ◌+◌, ◌*◌, get_or, length, drop};
+ghost use Rattle.std.specs.Prelude.{◌≡◌, ◌∷◌, [], ◌+◌, length, drop};
 ghost use Rattle.class.specs.Class.{paper};
 ghost use Rattle.checks.specs.Check.{judge_body};
 ghost use Rattle.iter.specs.Items.{items};
 ghost use Rattle.put.specs.Put.{over};
-ghost use Rattle.runs.specs.Runs.{surveyed, settles, at_end, marks_of, is_still};
+ghost use Rattle.runs.specs.Runs.{run, surveyed, settles, at_end, run_at, is_still};
 
-use checks::{Turn, Verdict};
-use compare::order::Order;
+use checks::Verdict;
+use std::cmp::Ordering;
 
-// Checks the records from a place on, and finds the run of each edit. The index holds the places of the edits in the list, in name order. Each edit
-// has two marks, in the index's order: where its run starts, and where it ends. They are put to the front of `marks`; what has no room is left out.
-// At the first fault the check ends, and the edits that are not settled by then get no marks.
+// A run of old bytes, by the places where it starts and where it ends.
+#[derive(Clone, Copy, Default)]
+pub struct Run {
+    pub start: usize,
+    pub end: usize,
+}
+
+// Checks the records from a place on, and finds the run of each edit. The index holds the places of the edits in the list, in name order. The runs are
+// put to the front of `marks`, in the index's order; what has no room is left out. At the first fault the check ends, and the edits that are not settled
+// by then get no runs.
 pub fn survey(
     n: usize,
     file: &[u8],
     body: usize,
     list: &[u8],
     index: &[u32],
-    marks: &mut [usize],
+    marks: &mut [Run],
 ) -> Verdict
     ensures value { result ≡ judge_body paper n file.now body }
-    ensures marks_after { marks.new ≡ over marks.old 0 (marks_of (surveyed n list.now body [] (items paper n (drop body file.now)) index.now)) }
+    ensures marks_after { marks.new ≡ over marks.old 0 (surveyed n list.now body [] (items paper n (drop body file.now)) index.now) }
 {
     let mut place = body;
     let mut count = 0;
@@ -31,14 +38,14 @@ pub fn survey(
     let mut j = 0;
     loop {
         match checks::take_turn(n, file, place, last) {
-            Turn::End => {
+            Ok(None) => {
                 settle_rest(index, j, place, marks);
-                return Verdict::Clean(count);
+                return Ok(count);
             }
-            Turn::Refused(why) => {
-                return Verdict::Refused(why);
+            Err(why) => {
+                return Err(why);
             }
-            Turn::On(found) => {
+            Ok(Some(found)) => {
                 last = decode::reference::name_of(&file[place..], n, found);
                 let next = place + found.size;
                 j = settle(list, index, j, last, place, next, marks);
@@ -58,78 +65,58 @@ fn settle(
     name: &[u8],
     place: usize,
     next: usize,
-    marks: &mut [usize],
+    marks: &mut [Run],
 ) -> usize
     ensures value { result ≡ from + length (settles list.now name.now place next (drop from index.now)) }
-    ensures marks_after { marks.new ≡ over marks.old (2 * from) (marks_of (settles list.now name.now place next (drop from index.now))) }
+    ensures marks_after { marks.new ≡ over marks.old from (settles list.now name.now place next (drop from index.now)) }
 {
-    let mut j = from;
-    while j < index.len() {
+    for j in from..index.len() {
         match compare::order::compare(name, parts::edit_name(list, index[j])) {
-            Order::Less => {
+            Ordering::Less => {
                 return j;
             }
-            Order::Equal => {
-                mark(marks, 2 * j, place, next);
+            Ordering::Equal => {
+                mark(marks, j, place, next);
                 return j + 1;
             }
-            Order::Greater => {
-                mark(marks, 2 * j, place, place);
-                j += 1;
-            }
+            Ordering::Greater => mark(marks, j, place, place),
         }
     }
-    j
+    from.max(index.len())
 }
 
 // The edits of the index's entry `from` on have greater names than all records: each gets an empty run behind the last record.
-fn settle_rest(index: &[u32], from: usize, place: usize, marks: &mut [usize])
-    ensures { marks.new ≡ over marks.old (2 * from) (marks_of (at_end place (drop from index.now))) }
+fn settle_rest(index: &[u32], from: usize, place: usize, marks: &mut [Run])
+    ensures { marks.new ≡ over marks.old from (at_end place (drop from index.now)) }
 {
-    let mut j = from;
-    while j < index.len() {
-        mark(marks, 2 * j, place, place);
-        j += 1;
+    for j in from..index.len() {
+        mark(marks, j, place, place);
     }
 }
 
-// The start and the end of a run put at a place of the marks, as far as there is room.
-fn mark(marks: &mut [usize], at: usize, from: usize, to: usize)
-    ensures { marks.new ≡ over marks.old at (from ∷ to ∷ []) }
+// The run of the index's entry j, as far as there is room.
+fn mark(marks: &mut [Run], j: usize, start: usize, end: usize)
+    ensures { marks.new ≡ over marks.old j (run start end ∷ []) }
 {
-    if marks.len() <= at {
-        return;
+    // The library's `get_mut` says nothing of what the slice ends as.
+    if j < marks.len() {
+        marks[j] = Run { start, end };
     }
-    marks[at] = from;
-    if marks.len() - at < 2 {
-        return;
-    }
-    marks[at + 1] = to;
 }
 
-// The mark at a place, or 0 where there is none.
-pub fn mark_at(marks: &[usize], at: usize) -> usize
-    ensures { result ≡ get_or marks.now at 0 }
+// The run of the index's entry j, or an empty one where there is none.
+pub fn mark_at(marks: &[Run], j: usize) -> Run
+    ensures { result ≡ run_at marks.now j }
 {
-    if at < marks.len() {
-        return marks[at];
-    }
-    0
+    marks.get(j).copied().unwrap_or_default()
 }
 
 // Whether the edits leave every record as it is: there is no update, and every run is empty.
-pub fn is_still(list: &[u8], index: &[u32], marks: &[usize]) -> bool
+pub fn is_still(list: &[u8], index: &[u32], marks: &[Run]) -> bool
     ensures { result ≡ is_still list.now index.now marks.now }
 {
-    let mut j = 0;
-    while j < index.len() {
-        if parts::edit_kind(list, index[j]) != 0 {
-            return false;
-        }
-        if mark_at(marks, 2 * j) != mark_at(marks, 2 * j + 1) {
-            return false;
-        }
-        j += 1;
-    }
-    true
+    index.iter().enumerate().all(|(j, place)| {
+        let run = mark_at(marks, j);
+        parts::edit_kind(list, *place) == 0 && run.start == run.end
+    })
 }

@@ -1,27 +1,24 @@
 -- The search over the places of a body.
-use Rattle.std.specs.Prelude.{Bool, true, false, ◌||◌, List, [], ℕ, zero, suc, ◌+◌, ◌-◌, ◌/◌, ltb, length, take, drop}
-use Rattle.compare.specs.declared.order.Order.{Order}
-use Rattle.compare.specs.declared.order.Order.TheVariants.{Less, Equal, Greater}
+use Rattle.std.specs.Prelude.{Bool, true, false, ◌||◌, List, [], ℕ, zero, suc, ◌+◌, ◌-◌, ◌/◌, ltb, length, take, drop, Option, Some, None, Result, Ok, Err}
 use Rattle.class.specs.Class.{Classes}
 use Rattle.compare.specs.Order.{order_of}
-use Rattle.probe.specs.declared.shape.Shape.{Shape}
-use Rattle.probe.specs.declared.shape.Shape.TheVariants.{NameLen, Fails}
 use Rattle.probe.specs.Shape.{shape_of}
 use Rattle.probe.specs.RecordStart.{record_start}
-use Rattle.search.specs.declared.Halved.{Halved}
-use Rattle.search.specs.declared.Halved.TheVariants.{Hit, Miss}
 use Rattle.search.specs.declared.Probed.{Probed}
+use Rattle.std.specs.declared.cmp.Ordering.{Ordering}
+use Rattle.std.specs.declared.cmp.Ordering.TheVariants.{Equal, Greater, Less}
+use Rattle.search.specs.declared.Miss.{Miss}
 
 -- ---- what a probe reads
 
 -- the name that stands behind n bytes and one more; "A shape that fails counts as an empty name"
-abbrev pub name_by_shape : ℕ → List ℕ → Shape → List ℕ
-name_by_shape n s (NameLen k) = take k (drop (n + 1) s)
-name_by_shape n s Fails = []
+abbrev pub name_by_shape : ℕ → List ℕ → Option ℕ → List ℕ
+name_by_shape n s (Some k) = take k (drop (n + 1) s)
+name_by_shape n s None = []
 
-abbrev pub is_failure : Shape → Bool
-is_failure (NameLen k) = false
-is_failure Fails = true
+abbrev pub is_failure : Option ℕ → Bool
+is_failure (Some k) = false
+is_failure None = true
 
 unfoldable pub probed_of : Classes → ℕ → List ℕ → List ℕ → Probed
 probed_of byte n s wanted =
@@ -36,24 +33,28 @@ probed_of byte n s wanted =
 abbrev pub middle : ℕ → ℕ → ℕ
 middle low high = low + (high - low) / 2
 
+-- no probe hit: where the search ended, and whether a shape failed
+abbrev pub missed : ℕ → Bool → Result ℕ Miss
+missed place failed = Err (record { place = place; failed = failed })
+
 -- what the probes say is given: at each place how its name stands to the wanted one, and whether its shape failed.
 -- "Smaller name: low becomes probe + 1. Greater: high becomes probe." The gap shrinks at each turn, so as many turns as it is long are enough
-module _ (order : ℕ → Order) (failure : ℕ → Bool) where
-  unfoldable pub halve : ℕ → ℕ → ℕ → Bool → Halved
-  halve zero low high failed = Miss low failed
+module _ (order : ℕ → Ordering) (failure : ℕ → Bool) where
+  unfoldable pub halve : ℕ → ℕ → ℕ → Bool → Result ℕ Miss
+  halve zero low high failed = missed low failed
   halve (suc turns) low high failed =
       let m = middle low high in
       elim (ltb low high) [
-        | false ↦ Miss low failed
+        | false ↦ missed low failed
         | true ↦ elim (order m) [
           | Less ↦ halve turns (m + 1) high (failed || failure m)
-          | Equal ↦ Hit m
+          | Equal ↦ Ok m
           | Greater ↦ halve turns low m (failed || failure m)
         ]
       ]
 
 -- how many probes that takes
-module _ (order : ℕ → Order) where
+module _ (order : ℕ → Ordering) where
   unfoldable pub probe_count : ℕ → ℕ → ℕ → ℕ
   probe_count zero low high = 0
   probe_count (suc turns) low high =
@@ -74,19 +75,19 @@ module _ (byte : Classes) (n : ℕ) (s wanted : List ℕ) where
   abbrev pub probed_at : ℕ → Probed
   probed_at place = probed_of byte n (drop (record_start s place) s) wanted
 
-  abbrev pub order_at : ℕ → Order
+  abbrev pub order_at : ℕ → Ordering
   order_at place = (probed_at place).order
 
   abbrev pub failure_at : ℕ → Bool
   failure_at place = (probed_at place).failed
 
   -- the place told is a record start
-  abbrev pub placed : Halved → Halved
-  placed (Hit m) = Hit (record_start s m)
-  placed (Miss low failed) = Miss (record_start s low) failed
+  abbrev pub placed : Result ℕ Miss → Result ℕ Miss
+  placed (Ok m) = Ok (record_start s m)
+  placed (Err miss) = missed (record_start s miss.place) miss.failed
 
   -- "low 0, high the length"
-  unfoldable pub search_of : Halved
+  unfoldable pub search_of : Result ℕ Miss
   search_of = placed (halve order_at failure_at (length s) 0 (length s) false)
 
   unfoldable pub probes_of : ℕ

@@ -6,27 +6,28 @@ ghost use Rattle.class.specs.Class.{paper};
 ghost use Rattle.probe.specs.RecordStart.{record_start};
 ghost use Rattle.search.specs.Search.{search_of, probed_of};
 
-use compare::order::Order;
-use probe::shape::Shape;
+use std::cmp::Ordering;
 
-// What halving comes to.
+// What is known where no probe hit.
 #[derive(Clone, Copy)]
-pub enum Halved {
-    // The start of the record whose name is the wanted one.
-    Hit(usize),
-    // Where the search ended, and whether a probe met a shape that fails.
-    Miss { place: usize, failed: bool },
-}
-
-// What a probe says: how the name stands to the wanted one, and whether the shape failed.
-#[derive(Clone, Copy)]
-pub struct Probed {
-    pub order: Order,
+pub struct Miss {
+    // Where the search ended.
+    pub place: usize,
+    // Whether a probe met a shape that fails.
     pub failed: bool,
 }
 
-// The search for any bytes in a body, with ids of n digits.
-pub fn search(n: usize, s: &[u8], wanted: &[u8]) -> Halved
+// What a probe says: how the name stands to the wanted one, and whether the shape failed. A pair and no Option: a shape that fails has an order too, that of the
+// empty name, and the search goes on by it.
+#[derive(Clone, Copy)]
+pub struct Probed {
+    pub order: Ordering,
+    pub failed: bool,
+}
+
+// The search for any bytes in a body, with ids of n digits: the start of the record whose name is the wanted one. What is halved are the places of the body, for
+// which there is no slice that the library could search, and what failed on the way is told beside the answer.
+pub fn search(n: usize, s: &[u8], wanted: &[u8]) -> Result<usize, Miss>
     ensures { result ≡ search_of paper n s.now wanted.now }
 {
     let mut low = 0;
@@ -34,26 +35,19 @@ pub fn search(n: usize, s: &[u8], wanted: &[u8]) -> Halved
     let mut failed = false;
     loop {
         if high <= low {
-            break Halved::Miss {
+            break Err(Miss {
                 place: probe::start::record_start(s, low),
                 failed,
-            };
+            });
         }
         let middle = low + (high - low) / 2;
         let start = start_of(s, low, middle, high);
         let probed = probe(n, parse::part::between(s, start, s.len()), wanted);
-        failed = failed | probed.failed;
-        let order = probed.order;
-        match order {
-            Order::Less => {
-                low = middle + 1;
-            }
-            Order::Equal => {
-                break Halved::Hit(start);
-            }
-            Order::Greater => {
-                high = middle;
-            }
+        failed |= probed.failed;
+        match probed.order {
+            Ordering::Less => low = middle + 1,
+            Ordering::Equal => break Ok(start),
+            Ordering::Greater => high = middle,
         }
     }
 }
@@ -85,17 +79,15 @@ fn is_far(s: &[u8], low: usize, middle: usize, high: usize) -> bool
 pub(crate) fn probe(n: usize, s: &[u8], wanted: &[u8]) -> Probed
     ensures { result ≡ probed_of paper n s.now wanted.now }
 {
-    match probe::shape::name_at_record_start(s, n) {
-        Shape::NameLen(len) => {
+    let (name, failed) = match probe::shape::name_at_record_start(s, n) {
+        Some(len) => {
             let from = n + 1;
-            Probed {
-                order: compare::order::compare(parse::part::between(s, from, from + len), wanted),
-                failed: false,
-            }
+            (parse::part::between(s, from, from + len), false)
         }
-        Shape::Fails => Probed {
-            order: compare::order::compare(&s[0..0], wanted),
-            failed: true,
-        },
+        None => (&s[0..0], true),
+    };
+    Probed {
+        order: compare::order::compare(name, wanted),
+        failed,
     }
 }

@@ -7,7 +7,8 @@ use Prim.Native.Nat.{ℕ, ◌+◌, ◌≤◌, ◌<◌}
 use native.Mathlib.Decide.{ℕ_discrete}
 use native.Mathlib.Omega.{arith}
 use lib.ListN.{length}
-use Rattle.sort.specs.Heap.{Heap, HeapBut, LargerChild, Down, swapped}
+use Rattle.std.specs.List.{swap}
+use Rattle.sort.specs.Heap.{Heap, HeapBut, LargerChild, Down}
 use Rattle.sort.proofs.Swaps.{Exchanged, exchanged, moved_none, moved_twice}
 
 module _ (lt : ℕ → ℕ → Bool) (l : List ℕ) (root n : ℕ) where
@@ -41,7 +42,7 @@ module _ (lt : ℕ → ℕ → Bool) (l : List ℕ) (root n : ℕ) where
               cc (h.edge r c (omega arith) ch m (omega arith) (omega arith), x.left, x.other c (omega arith) (omega arith));
         }
 
-    pub down_step : n ≤ length l → b ≡ swapped k r a → Down lt l b root n r
+    pub down_step : n ≤ length l → b ≡ swap a k r → Down lt l b root n r
     down_step room e =
         let x = exchanged a k r (omega arith) (omega arith) (omega arith) b e in
         record {

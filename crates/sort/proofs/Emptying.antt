@@ -9,7 +9,8 @@ use native.Mathlib.Omega.{arith}
 use lib.ListN.{length}
 use Rattle.sort.specs.Sorted.{sorted}
 use Rattle.places.specs.Laws.{StrictOrder, NotBefore}
-use Rattle.sort.specs.Heap.{Heap, Moved, swapped}
+use Rattle.std.specs.List.{swap}
+use Rattle.sort.specs.Heap.{Heap, Moved}
 use Rattle.sort.proofs.Heaps.{top}
 use Rattle.sort.proofs.Sorting.{only_order}
 use Rattle.sort.proofs.Swaps.{Exchanged, exchanged, stayed, moved_none, moved_twice, moved_more}
@@ -47,7 +48,7 @@ module _ {lt : ℕ → ℕ → Bool} (o : StrictOrder lt) (l a : List ℕ) (n : 
       )
 
   -- the root and the last entry of the heap change places
-  module _ (some : 1 < n) (b : List ℕ) (is : b ≡ swapped 0 (n - 1) a) where
+  module _ (some : 1 < n) (b : List ℕ) (is : b ≡ swap a 0 (n - 1)) where
     x : Exchanged 0 (n - 1) a b
     x = exchanged a 0 (n - 1) (omega arith) (omega arith) (omega arith) b is
 

@@ -5,13 +5,13 @@ use Prim.Native.Nat.{ℕ}
 use lib.ListN.{replicate}
 use Rattle.class.specs.Class.{is_line_end}
 use Rattle.places.specs.declared.name.Layout.TheVariants.{Edit, Record}
-use Rattle.sort.specs.declared.twin.Twin.TheVariants.{At, Nothing}
 use Rattle.length.specs.Length.{length_at}
 use Rattle.parts.specs.Parts.{edit_name}
 use Rattle.places.specs.Name.{text_of, standing_name}
 use Rattle.places.specs.Order.{before, comes_first}
 use Rattle.sort.specs.Sorted.{sorted}
 use Rattle.sort.specs.Twin.{first_twin}
+use Rattle.std.specs.declared.option.Option.TheVariants.{None, Some}
 
 -- ---- edits: `b`, `a`, `ab`, `a`, at the places 0, 3, 6 and 10, and one of no bytes at 13
 
@@ -35,11 +35,11 @@ edits_in_order_lem : sorted (comes_first Edit edits) (10 ∷ 0 ∷ 3 ∷ 13 ∷ 
 unfolding edits length_at edit_name before sorted
 edits_in_order_lem = refl
 
-the_second_of_two : first_twin (standing_name Edit edits) (13 ∷ 3 ∷ 10 ∷ 6 ∷ 0 ∷ []) ≡ At 10
+the_second_of_two : first_twin (standing_name Edit edits) (13 ∷ 3 ∷ 10 ∷ 6 ∷ 0 ∷ []) ≡ Some 10
 unfolding edits length_at edit_name first_twin
 the_second_of_two = refl
 
-no_neighbours_alike : first_twin (standing_name Edit edits) (3 ∷ 6 ∷ 10 ∷ []) ≡ Nothing
+no_neighbours_alike : first_twin (standing_name Edit edits) (3 ∷ 6 ∷ 10 ∷ []) ≡ None
 unfolding edits length_at edit_name first_twin
 no_neighbours_alike = refl
 

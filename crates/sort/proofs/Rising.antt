@@ -8,7 +8,8 @@ use native.Mathlib.Decide.{ℕ_discrete}
 use native.Mathlib.Omega.{arith}
 use lib.ListN.{length, get_or}
 use Rattle.places.specs.Laws.{StrictOrder, NotBefore}
-use Rattle.sort.specs.Heap.{Child, Heap, HeapBut, Moved, swapped}
+use Rattle.std.specs.List.{swap}
+use Rattle.sort.specs.Heap.{Child, Heap, HeapBut, Moved}
 use Rattle.sort.proofs.Orders.{not_back, not_before_trans}
 use Rattle.sort.proofs.Swaps.{Exchanged, exchanged, moved_none, moved_twice}
 
@@ -69,7 +70,7 @@ module _ {lt : ℕ → ℕ → Bool} (o : StrictOrder lt) (l a : List ℕ) (root
           let qc = up.heap.edge q c low ch m (omega arith) nck in
           cc (not_before_trans o (get_or a k 0) (get_or a q 0) (get_or a c 0) kq qc, x.left, x.other c (omega arith) nck))
 
-      pub up_step : n ≤ length l → b ≡ swapped q k a → Up lt l b root n q
+      pub up_step : n ≤ length l → b ≡ swap a q k → Up lt l b root n q
       up_step room e =
           let x = exchanged a q k (omega arith) (omega arith) (omega arith) b e in
           record {

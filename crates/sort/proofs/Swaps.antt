@@ -10,7 +10,9 @@ use lib.ListN.{length, get_or, set, drop, length-set}
 use lib.Seq.{get_or-set_same, get_or-set_other, drop-set-lt, get_or-drop, drop-drop}
 use Rattle.class.specs.Class.{bit}
 use Rattle.places.specs.Laws.{count, Permutation}
-use Rattle.sort.specs.Heap.{Moved, swapped}
+use Rattle.std.specs.List.{swap}
+use Rattle.std.proofs.lemmas.List.{get_or_default}
+use Rattle.sort.specs.Heap.{Moved}
 
 -- m is l with the entries i and j exchanged
 pub record Exchanged (i j : ℕ) (l m : List ℕ) : Type 0 where
@@ -20,6 +22,14 @@ pub record Exchanged (i j : ℕ) (l m : List ℕ) : Type 0 where
   pub moved : (n : ℕ) → i < n → j < n → Moved l m n
 
 -- ---- one exchange
+
+-- the entries i and j have changed places
+abbrev swapped : ℕ → ℕ → List ℕ → List ℕ
+swapped i j l = set (set l i (get_or l j 0)) j (get_or l i 0)
+
+swap_is : (l : List ℕ) (i j : ℕ) → i < length l → j < length l → swap l i j ≡ swapped i j l
+swap_is [] i j hi hj = absurd (omega arith)
+swap_is (d ∷ l) i j hi hj = rw (get_or_default (d ∷ l) i d 0 hi, get_or_default (d ∷ l) j d 0 hj)
 
 -- a store changes the counts of the old and the new entry alone
 count_set : (x : ℕ) (l : List ℕ) (i v : ℕ) → i < length l → bit (eqb x (get_or l i 0)) + count x (set l i v) ≡ bit (eqb x v) + count x l
@@ -57,8 +67,9 @@ module _ (l : List ℕ) (i j : ℕ) (hi : i < length l) (hj : j < length l) (ne 
             (λ kj. (k, nk, other k ki kj)));
       }
 
-  pub exchanged : (m : List ℕ) → m ≡ swapped i j l → Exchanged i j l m
-  exchanged m e = rw e (record { left = left; right = right; other = other; moved = moved })
+  -- what the slice's `swap` says
+  pub exchanged : (m : List ℕ) → m ≡ swap l i j → Exchanged i j l m
+  exchanged m e = rw (e, swap_is l i j hi hj) (record { left = left; right = right; other = other; moved = moved })
 
 -- ---- a run of exchanges
 

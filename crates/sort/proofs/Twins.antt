@@ -1,17 +1,13 @@
--- The first twin from a place on; a twin that is found is one; names in order with no twin rise, and are all different.
+-- The first twin, pair by pair; a twin that is found is one; names in order with no twin rise, and are all different.
 use mathlib.Core.Path.{◌≡◌, refl, sym, ap, ◌∙◌}
 use mathlib.Core.Bool.{true≢false}
 use mathlib.Core.List.{List, [], ◌∷◌}
-use Prim.Native.Nat.{ℕ, zero, suc, ◌+◌, ◌-◌, ◌≤◌, ◌<◌}
+use Prim.Native.Nat.{ℕ, suc, ◌+◌, ◌≤◌, ◌<◌}
 use native.Mathlib.Omega.{arith}
-use lib.ListN.{length, get_or, drop, length-drop}
-use lib.Seq.{drop-cons}
+use lib.ListN.{length, get_or, take, drop}
 use Rattle.parse.specs.Choice.{if}
 use Rattle.compare.specs.Order.{order_of}
-use Rattle.compare.specs.declared.order.Order.{Order}
-use Rattle.compare.specs.declared.order.Order.TheVariants.{Less, Equal, Greater}
 use Rattle.compare.proofs.Orders.{order_refl, order_equal, is_equal, same_by_order, turned, order_turned, less_trans}
-use Rattle.sort.specs.declared.twin.Twin.TheVariants.{At, Nothing}
 use Rattle.places.specs.Order.{before}
 use Rattle.compare.specs.Prefix.{same}
 use Rattle.places.specs.Laws.{Ordered, NamesRise, AllDifferent, HasTwin}
@@ -19,31 +15,32 @@ use Rattle.sort.specs.Twin.{twin_behind, first_twin}
 use Rattle.sort.proofs.Orders.{NotAfter}
 use Rattle.sort.proofs.Pairs.{each_map, Pairs, pairs_at, pairs_by}
 use Rattle.places.proofs.Places.{before_by}
+use Rattle.std.specs.declared.cmp.Ordering.{Ordering}
+use Rattle.std.specs.declared.cmp.Ordering.TheVariants.{Equal, Greater, Less}
+use Rattle.std.specs.declared.option.Option.TheVariants.{None, Some}
 
 module _ (name : ℕ → List ℕ) where
-  -- ---- from a place on
+  -- ---- pair by pair
 
-  one_no_twin : (l : List ℕ) → length l ≤ 1 → first_twin name l ≡ Nothing
+  -- fewer than two entries are no pair
+  pub no_pair_left : (l : List ℕ) (size : ℕ) → size ≡ 2 → length l < size → first_twin name l ≡ None
   unfolding first_twin
-  one_no_twin [] h = refl
-  one_no_twin (p ∷ []) h = refl
-  one_no_twin (p ∷ q ∷ l) h = absurd (omega arith)
+  no_pair_left [] size e h = refl
+  no_pair_left (p ∷ []) size e h = refl
+  no_pair_left (p ∷ q ∷ l) size e h = absurd (omega arith)
 
-  pub no_twin_left : (l : List ℕ) (i : ℕ) → length l ≤ i → first_twin name (drop (i - 1) l) ≡ Nothing
-  no_twin_left l i h = one_no_twin (drop (i - 1) l) (rw length-drop (omega arith))
-
-  pub twin_at : (l : List ℕ) (i : ℕ) → 0 < i → i < length l
-      → first_twin name (drop (i - 1) l)
-      ≡ if (same (name (get_or l (i - 1) 0)) (name (get_or l i 0))) (At (get_or l i 0)) (first_twin name (drop i l))
+  -- the two in front, or the first twin behind the first
+  pub twin_in_front : (l pair : List ℕ) (size : ℕ) → size ≡ 2 → size ≤ length l → pair ≡ take size l
+      → first_twin name l
+      ≡ if (same (name (get_or pair 0 0)) (name (get_or pair 1 0))) (Some (get_or pair 1 0)) (first_twin name (drop 1 l))
   unfolding first_twin
-  twin_at l zero h k = absurd (omega arith)
-  twin_at l (suc i) h k =
-      let e : suc i - 1 ≡ i = omega arith in
-      rw (e, drop-cons l i 0 (omega arith), drop-cons l (suc i) 0 (omega arith))
+  twin_in_front [] pair size two h e = absurd (omega arith)
+  twin_in_front (p ∷ []) pair size two h e = absurd (omega arith)
+  twin_in_front (p ∷ q ∷ l) pair size two h e = rw (e, two)
 
   -- ---- a twin that is found is one
 
-  twin_behind_lem : (p : ℕ) (l : List ℕ) (q : ℕ) → twin_behind name p l ≡ At q → HasTwin name (p ∷ l) q
+  twin_behind_lem : (p : ℕ) (l : List ℕ) (q : ℕ) → twin_behind name p l ≡ Some q → HasTwin name (p ∷ l) q
   twin_behind_lem p [] q found = absurd (let z : ◌≡◌ {A = ℕ} 0 1 = cc in omega arith)
   twin_behind_lem p (r ∷ l) q found = go (twin_behind_lem r l q) (order_of (name p) (name r)) refl (rw (same_by_order (name p) (name r)) at found)
     where
@@ -52,8 +49,8 @@ module _ (name : ℕ → List ℕ) where
           let e : suc t.at + 1 ≡ suc (t.at + 1) = omega arith in
           record { at = suc t.at; within = omega arith; there = rw e t.there; same_name = t.same_name }
 
-      go : (twin_behind name r l ≡ At q → HasTwin name (r ∷ l) q) → (o : Order) → order_of (name p) (name r) ≡ o
-          → if (is_equal o) (At r) (twin_behind name r l) ≡ At q
+      go : (twin_behind name r l ≡ Some q → HasTwin name (r ∷ l) q) → (o : Ordering) → order_of (name p) (name r) ≡ o
+          → if (is_equal o) (Some r) (twin_behind name r l) ≡ Some q
           → HasTwin name (p ∷ r ∷ l) q
       go rest Less e t = on (rest t)
       go rest Equal e t =
@@ -61,7 +58,7 @@ module _ (name : ℕ → List ℕ) where
           record { at = 0; within = omega arith; there = rq; same_name = order_equal (name p) (name r) e ∙ ap name rq }
       go rest Greater e t = on (rest t)
 
-  pub is_twin : (l : List ℕ) (p : ℕ) → first_twin name l ≡ At p → HasTwin name l p
+  pub is_twin : (l : List ℕ) (p : ℕ) → first_twin name l ≡ Some p → HasTwin name l p
   unfolding first_twin
   is_twin [] p found = absurd (let z : ◌≡◌ {A = ℕ} 0 1 = cc in omega arith)
   is_twin (q ∷ l) p found = twin_behind_lem q l p found
@@ -71,12 +68,12 @@ module _ (name : ℕ → List ℕ) where
   abbrev Rises : ℕ → ℕ → Type 0
   Rises p q = order_of (name p) (name q) ≡ Less
 
-  rising : (p : ℕ) (l : List ℕ) → Pairs (NotAfter (before name)) (p ∷ l) → twin_behind name p l ≡ Nothing → Pairs Rises (p ∷ l)
+  rising : (p : ℕ) (l : List ℕ) → Pairs (NotAfter (before name)) (p ∷ l) → twin_behind name p l ≡ None → Pairs Rises (p ∷ l)
   rising p [] s none = (tt, tt)
   rising p (q ∷ l) s none = go (rising q l s.1) (order_of (name p) (name q)) refl (rw (same_by_order (name p) (name q)) at none)
     where
-      go : (twin_behind name q l ≡ Nothing → Pairs Rises (q ∷ l)) → (o : Order) → order_of (name p) (name q) ≡ o
-          → if (is_equal o) (At q) (twin_behind name q l) ≡ Nothing
+      go : (twin_behind name q l ≡ None → Pairs Rises (q ∷ l)) → (o : Ordering) → order_of (name p) (name q) ≡ o
+          → if (is_equal o) (Some q) (twin_behind name q l) ≡ None
           → Pairs Rises (p ∷ q ∷ l)
       go rest Less e t =
           let r = rest t in
@@ -86,15 +83,15 @@ module _ (name : ℕ → List ℕ) where
           absurd
           (true≢false (sym (before_by name q p Less (order_turned (name p) (name q) ∙ ap turned e)) ∙ s.0.0))
 
-  all_rising : (l : List ℕ) → Pairs (NotAfter (before name)) l → first_twin name l ≡ Nothing → Pairs Rises l
+  all_rising : (l : List ℕ) → Pairs (NotAfter (before name)) l → first_twin name l ≡ None → Pairs Rises l
   unfolding first_twin
   all_rising [] s none = tt
   all_rising (p ∷ l) s none = rising p l s none
 
-  pub names_rise : (l : List ℕ) → Ordered (before name) l → first_twin name l ≡ Nothing → NamesRise name l
+  pub names_rise : (l : List ℕ) → Ordered (before name) l → first_twin name l ≡ None → NamesRise name l
   names_rise l s none = pairs_at Rises l (all_rising l (pairs_by (NotAfter (before name)) l s) none)
 
-  pub all_different : (l : List ℕ) → Ordered (before name) l → first_twin name l ≡ Nothing → AllDifferent name l
+  pub all_different : (l : List ℕ) → Ordered (before name) l → first_twin name l ≡ None → AllDifferent name l
   all_different l s none i j h k e =
       let less = names_rise l s none i j h k in
       let level = ap (order_of (name (get_or l i 0))) (sym e) ∙ order_refl (name (get_or l i 0)) in

@@ -1,5 +1,5 @@
 -- A heap in the first n entries of a list, for any test `lt` of coming first: what the functions of src/lib.rt promise each other.
-use Rattle.std.specs.Prelude.{Bool, ◌≡◌, List, ℕ, ◌+◌, ◌*◌, ◌≤◌, ◌<◌, length, get_or, set, drop}
+use Rattle.std.specs.Prelude.{Bool, ◌≡◌, List, ℕ, ◌+◌, ◌*◌, ◌≤◌, ◌<◌, length, get_or, drop}
 use Rattle.places.specs.Laws.{NotBefore, Permutation}
 
 -- the entry c is a child of the entry p
@@ -34,7 +34,3 @@ pub record Down (lt : ℕ → ℕ → Bool) (l a : List ℕ) (root n k : ℕ) : 
   pub within : k < n
   pub heap : HeapBut lt a root n k
   pub moved : Moved l a n
-
--- the entries i and j have changed places
-abbrev pub swapped : ℕ → ℕ → List ℕ → List ℕ
-swapped i j l = set (set l i (get_or l j 0)) j (get_or l i 0)

@@ -1,7 +1,6 @@
 -- What holds of any layout, any bytes and any list of places. proofs/Theorems.antt has the proofs.
-use Rattle.std.specs.Prelude.{◌≡◌, List, ℕ}
+use Rattle.std.specs.Prelude.{◌≡◌, List, ℕ, Some, None}
 use Rattle.places.specs.declared.name.Layout.{Layout}
-use Rattle.sort.specs.declared.twin.Twin.TheVariants.{At, Nothing}
 use Rattle.places.specs.Laws.{StrictOrder, InOrder, NamesRise, AllDifferent, HasTwin}
 use Rattle.places.specs.Name.{standing_name}
 use Rattle.places.specs.Order.{comes_first}
@@ -24,16 +23,16 @@ NoOtherOrder = (layout : Layout) (s l a : List ℕ) → InOrder (comes_first lay
 abbrev pub NoTwinNamesRise : Type 0
 NoTwinNamesRise =
     (layout : Layout) (s l : List ℕ)
-    → first_twin (standing_name layout s) (sorted (comes_first layout s) l) ≡ Nothing
+    → first_twin (standing_name layout s) (sorted (comes_first layout s) l) ≡ None
     → NamesRise (standing_name layout s) (sorted (comes_first layout s) l)
 
 -- and all its names are different
 abbrev pub NoTwinAllDifferent : Type 0
 NoTwinAllDifferent =
     (layout : Layout) (s l : List ℕ)
-    → first_twin (standing_name layout s) (sorted (comes_first layout s) l) ≡ Nothing
+    → first_twin (standing_name layout s) (sorted (comes_first layout s) l) ≡ None
     → AllDifferent (standing_name layout s) (sorted (comes_first layout s) l)
 
 -- where any list has a first twin, that is the twin of the entry before it
 abbrev pub TwinIsTwin : Type 0
-TwinIsTwin = (layout : Layout) (s l : List ℕ) (p : ℕ) → first_twin (standing_name layout s) l ≡ At p → HasTwin (standing_name layout s) l p
+TwinIsTwin = (layout : Layout) (s l : List ℕ) (p : ℕ) → first_twin (standing_name layout s) l ≡ Some p → HasTwin (standing_name layout s) l p

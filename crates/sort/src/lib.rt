@@ -1,8 +1,9 @@
 // A lent index of places is put in order of the names that stand there in lent bytes: in place, with no memory of its own.
+// The index, the bytes and the layout stay three parameters of each function: the clauses speak of the index before and after and of the other two as they stand.
 #![tactic(auto)]
 
 ghost use Rattle.std.specs.Prelude.{◌≡◌, ◌+◌, ◌*◌, ◌≤◌, ◌<◌, length};
-ghost use Rattle.sort.specs.Heap.{Heap, HeapBut, LargerChild, Moved, Down, swapped};
+ghost use Rattle.sort.specs.Heap.{Heap, HeapBut, LargerChild, Moved, Down};
 ghost use Rattle.places.specs.Order.{comes_first};
 ghost use Rattle.sort.specs.Sorted.{sorted};
 
@@ -16,15 +17,13 @@ use places::name::Layout;
 // n - 1 times to empty it. A call takes an entry down at most log2 n levels with one comparison a level, and up again
 // no further, with one a level: at most 3 n log2 n comparisons in all. On the way down only the children are compared,
 // since an entry that was a leaf mostly belongs near the leaves. So the way up is mostly short, and about n log2 n
-// comparisons do.
+// comparisons do. The library's `sort_unstable_by` takes O(n log n) too, but nothing says how many times n log2 n.
 pub fn sort(index: &mut [u32], s: &[u8], layout: Layout)
     ensures { index.new ≡ sorted (comes_first layout s.now) index.old }
 {
     make_heap(index, s, layout);
-    let mut n = index.len();
-    while 1 < n {
-        n -= 1;
-        swap(index, 0, n);
+    for n in (1..index.len()).rev() {
+        index.swap(0, n);
         sink(index, s, layout, 0, n);
     }
 }
@@ -36,9 +35,7 @@ fn make_heap(index: &mut [u32], s: &[u8], layout: Layout)
         × Moved index.old index.new (length index.old) }
 {
     let n = index.len();
-    let mut root = n / 2;
-    while 0 < root {
-        root -= 1;
+    for root in (0..n / 2).rev() {
         sink(index, s, layout, root, n);
     }
 }
@@ -62,7 +59,7 @@ fn descend(index: &mut [u32], s: &[u8], layout: Layout, root: usize, n: usize) -
     let mut k = root;
     while k < n / 2 {
         let child = larger_child(index, s, layout, k, n);
-        swap(index, k, child);
+        index.swap(k, child);
         k = child;
     }
     k
@@ -82,7 +79,7 @@ fn rise(index: &mut [u32], s: &[u8], layout: Layout, root: usize, leaf: usize, n
         if !places::name::comes_first(s, layout, index[parent], index[k]) {
             return;
         }
-        swap(index, parent, k);
+        index.swap(parent, k);
         k = parent;
     }
 }
@@ -101,14 +98,4 @@ fn larger_child(index: &[u32], s: &[u8], layout: Layout, k: usize, n: usize) -> 
         return right;
     }
     left
-}
-
-// Two entries change places.
-fn swap(index: &mut [u32], i: usize, j: usize)
-    requires { (i < length index.old) × (j < length index.old) }
-    ensures { index.new ≡ swapped i j index.old }
-{
-    let x = index[i];
-    index[i] = index[j];
-    index[j] = x;
 }

@@ -5,25 +5,15 @@ ghost use Rattle.sort.specs.Twin.{first_twin};
 
 use places::name::Layout;
 
-// The place of the second of two such neighbours, or that there are none.
-#[derive(Clone, Copy)]
-pub enum Twin {
-    At(u32),
-    Nothing,
-}
-
-// The first twin in an index. In a sorted one there is a twin wherever two names are the same.
-pub fn first_twin(index: &[u32], s: &[u8], layout: Layout) -> Twin
+// The first twin in an index: the place of the second of the two. In a sorted one there is a twin wherever two names are the same.
+pub fn first_twin(index: &[u32], s: &[u8], layout: Layout) -> Option<u32>
     ensures { result ≡ first_twin (standing_name layout s.now) index.now }
 {
-    let mut i = 1;
-    while i < index.len() {
-        let first = index[i - 1];
-        let second = index[i];
+    for pair in index.windows(2) {
+        let (first, second) = (pair[0], pair[1]);
         if places::name::same_name(s, layout, first, second) {
-            return Twin::At(second);
+            return Some(second);
         }
-        i += 1;
     }
-    Twin::Nothing
+    None
 }

@@ -10,18 +10,19 @@ use lib.Seq.{drop-drop}
 use borrow.Author.Tests.{eq-eqb, ne_eqb, eqb-true}
 use Rattle.class.specs.Class.{paper, is_line_end}
 use Rattle.compare.specs.Prefix.{begins}
-use Rattle.parse.specs.declared.line.Text.TheVariants.{Ended}
-use Rattle.parse.specs.Line.{eol, line_len, text_len, text_at}
+use Rattle.parse.specs.Line.{eol, line_len, text_len, text_at, text_ends}
 use Rattle.parse.proofs.Fronts.{line_len_skip, eol_line, text_no10}
+use Rattle.parse.proofs.Lines.{text_next_same}
 use Rattle.parse.proofs.Views.{text_end, TextView, text, no_text, text_view}
 use Rattle.header.specs.declared.Header.{Header}
-use Rattle.header.specs.declared.Opened.{Opened}
-use Rattle.header.specs.declared.Opened.TheVariants as opened
 use Rattle.header.specs.Header.{mark, tokens, plain_header, header_of}
 use Rattle.header.proofs.Headers.{all_noted_body, HeaderView, none, unreadable, some, header_view}
 use Rattle.line_number.specs.LineNumber.{line_number}
 use Rattle.line_number.proofs.Feeds.{ended_line, eol_last}
 use Rattle.start.specs.Start.{start_line, StartsTrue}
+use Rattle.std.specs.declared.result.Result.{Result}
+use Rattle.std.specs.declared.result.Result.TheVariants.{Ok, Err}
+use Rattle.header.specs.declared.BadHeader.{BadHeader}
 
 -- bytes that begin with others are those and the rest
 front : (w s : List ℕ) → begins w s ≡ true → s ≡ w ++ drop (length w) s
@@ -58,19 +59,19 @@ pub starts_true : (s : List ℕ) → StartsTrue s
 unfolding start_line line_number
 starts_true s = record { line = λ h e. go h e (header_view paper s) }
   where
-    behind : (h : Header) {end next : ℕ} → begins mark s ≡ true → text_at paper s 18 ≡ Ended end next → h.body ≡ next → TextView paper s 18 → line_number s h.body ≡ 2
+    behind : (h : Header) {end next : ℕ} → begins mark s ≡ true → text_at paper s 18 ≡ text_ends end next → h.body ≡ next → TextView paper s 18 → line_number s h.body ≡ 2
     behind h m t z (no_text w f) = absurd (let x : ◌≡◌ {A = ℕ} 0 1 = cc in omega arith)
     behind h {end = last} {next} m t z (text w f) =
-        let q : end s m + eol (drop (end s m) s) ≡ h.body = let x : end s m + eol (drop (end s m) s) ≡ next = cc in x ∙ sym z in
+        let q : end s m + eol (drop (end s m) s) ≡ h.body = text_next_same (sym f ∙ t) ∙ sym z in
         rw q at (second_line_lem s m w)
 
-    go : (h : Header) → header_of paper s ≡ opened.Header h → HeaderView paper s → start_line s ≡ line_number s h.body
+    go : (h : Header) → header_of paper s ≡ Ok h → HeaderView paper s → start_line s ≡ line_number s h.body
     go h e (none x f) = let z : h ≡ plain_header 0 = cc in rw (z, ne_eqb (get_or s 0 0) 35 x)
     go h e (unreadable x f) = absurd (let z : ◌≡◌ {A = ℕ} 0 1 = cc in omega arith)
     go h e (some x m {end} {next} t f) =
         let z : h.body ≡ next = ap body_of (sym e ∙ f) ∙ all_noted_body (tokens (take (end - 18) (drop 18 s))) (plain_header next) in
         rw (eq-eqb (get_or s 0 0) 35 x) (sym (behind h m t z (text_view paper s 18)))
       where
-        body_of : Opened → ℕ
-        body_of (opened.Header k) = k.body
-        body_of (opened.Unreadable k) = 0
+        body_of : Result Header BadHeader → ℕ
+        body_of (Ok k) = k.body
+        body_of (Err bad) = 0

@@ -5,56 +5,42 @@ ghost use Rattle.std.specs.Prelude.{◌≡◌};
 ghost use Rattle.class.specs.Class.{paper};
 ghost use Rattle.start.specs.Start.{start_of, start_answer, start_line};
 
-use header::Opened;
-use parse::limit::Admission;
+use header::BadHeader;
+use parse::limit::NotAdmitted;
 
 #[derive(Clone, Copy)]
-pub enum Start {
-    // The place behind the header, and the number of the line that begins there.
-    At { place: usize, line: u64 },
-    // A first line that begins with # but can't be read as a header: the length of its text.
-    BadHeader(usize),
+pub struct Start {
+    // The place behind the header.
+    pub place: usize,
+    // The number of the line that begins there.
+    pub line: u64,
 }
 
-#[derive(Clone, Copy)]
-pub enum StartAnswer {
-    Done(Start),
-    UnknownKind,
-    TooLarge,
-}
-
-pub fn begin(kind: u32, file: &[u8]) -> StartAnswer
+pub fn begin(kind: u32, file: &[u8]) -> Result<Result<Start, BadHeader>, NotAdmitted>
     ensures { result ≡ start_answer kind file.now }
 {
-    match parse::limit::admit(kind, file.len(), 0) {
-        Admission::Digits(_) => { StartAnswer::Done(begin_without_kind(file)) }
-        Admission::UnknownKind => StartAnswer::UnknownKind,
-        Admission::TooLarge => StartAnswer::TooLarge,
-    }
+    parse::limit::admit(kind, file.len(), 0)?;
+    Ok(begin_without_kind(file))
 }
 
 // The same without a kind; a file of any size is taken.
-pub fn begin_without_kind(file: &[u8]) -> Start
+pub fn begin_without_kind(file: &[u8]) -> Result<Start, BadHeader>
     ensures { result ≡ start_of paper file.now }
 {
-    match header::open(file) {
-        Opened::Unreadable(text) => Start::BadHeader(text),
-        Opened::Header(h) => Start::At {
-            place: h.body,
-            line: start_line(file),
-        },
-    }
+    let header = header::open(file)?;
+    Ok(Start {
+        place: header.body,
+        line: start_line(file),
+    })
 }
 
 // The number of the line that the items begin on. A header is line 1, so behind it they begin on line 2.
+#[tactic(auto, unfolding(crate::specs::Start::start_line))]
 fn start_line(file: &[u8]) -> u64
     ensures { result ≡ start_line file.now }
 {
-    if file.len() == 0 {
-        return 1;
+    match file {
+        [b'#', ..] => 2,
+        _ => 1,
     }
-    if file[0] == b'#' {
-        return 2;
-    }
-    1
 }

@@ -1,7 +1,5 @@
 -- Where the parts of a record stand in the bytes in which its own place is counted; and what stands beside a refusal's number.
-use Rattle.std.specs.Prelude.{◌≡◌, ◌||◌, List, ℕ, ◌+◌, ◌≤◌, eqb, length, drop}
-use Rattle.parse.specs.declared.limit.IdKind.{IdKind}
-use Rattle.parse.specs.declared.limit.IdKind.TheVariants.{Digits, Unknown}
+use Rattle.std.specs.Prelude.{◌≡◌, Bool, false, ◌||◌, List, ℕ, ◌+◌, ◌≤◌, length, drop, Option, Some, None}
 use Rattle.parse.specs.Choice.{if}
 use Rattle.parse.specs.Limit.{digits_of, over_limit}
 use Rattle.decode.specs.declared.reference.Fault.{Fault}
@@ -16,17 +14,23 @@ use Rattle.tell.specs.declared.Numbered.{Numbered}
 -- ---- a record
 
 -- the digits of an id; where the kind is unknown there are none
-abbrev pub id_len : IdKind → ℕ
-id_len (Digits n) = n
-id_len Unknown = 0
+abbrev pub id_len : Option ℕ → ℕ
+id_len (Some n) = n
+id_len None = 0
 
 -- "Record: id, one space, valid name"
 unfoldable pub name_at : ℕ → ℕ → ℕ
 name_at kind place = place + id_len (digits_of kind) + 1
 
--- 0 where the record has no peeled id; else its place in the record, which is never 0
-unfoldable pub peeled_at : ℕ → ℕ → ℕ
-peeled_at place peeled = if (eqb peeled 0) 0 (place + peeled)
+-- where the peeled id stands that is at a place of the record; 0 where it has none
+unfoldable pub peeled_at : ℕ → Option ℕ → ℕ
+peeled_at place (Some at) = place + at
+peeled_at place None = 0
+
+-- whether there is a peeled id that stands beyond the size limit
+abbrev pub beyond_limit : Option ℕ → Bool
+beyond_limit (Some at) = over_limit at
+beyond_limit None = false
 
 -- where there is no record
 abbrev pub no_parts : Parts
@@ -38,12 +42,12 @@ parts_of kind place r = record { name_at = name_at kind place; name_len = r.name
 
 -- what the function that tells them promises the replies: beyond the size limit, nothing
 unfoldable pub parts_told : ℕ → ℕ → Record → Parts
-parts_told kind place r = if (over_limit place || over_limit r.peeled) no_parts (parts_of kind place r)
+parts_told kind place r = if (over_limit place || beyond_limit r.peeled) no_parts (parts_of kind place r)
 
 -- a record that starts at a place, and its peeled id, stand under the size limit, as they do in lent bytes: its parts are told as they are
 -- (`told-near`, proofs/Near.antt)
 abbrev pub Near : ℕ → Record → Type 0
-Near place r = (place ≤ 1073741824) × (r.peeled ≤ 1073741824)
+Near place r = (place ≤ 1073741824) × (beyond_limit r.peeled ≡ false)
 
 -- ---- a refusal
 

@@ -10,24 +10,25 @@ use lib.Seq.{take_all, take-length}
 use borrow.Author.Tests.{ltb-true, ltb-false}
 use Rattle.class.specs.Class.{paper}
 use Rattle.parse.specs.Choice.{if}
-use Rattle.parse.specs.declared.limit.Admission.{Admission}
-use Rattle.parse.specs.declared.limit.Admission.TheVariants as admission-is
 use Rattle.parse.specs.Limit.{admission, admit}
 use Rattle.parse.specs.Line.{line_len}
 use Rattle.parse.proofs.Admitted.{admitted}
 use Rattle.compare.specs.Prefix.{begins}
-use Rattle.decode.specs.declared.reference.Reading.{Reading}
-use Rattle.decode.specs.declared.reference.Reading.TheVariants as reading
 use Rattle.decode.specs.Record.{record_of}
 use Rattle.line_number.specs.LineNumber.{line_feeds, line_number, at_most, until_feed}
 use Rattle.line_number.proofs.Feeds.{within, number_on, feeds_le, line_parts, one_feed}
 use Rattle.iter.specs.declared.step.Step.{Step}
 use Rattle.iter.specs.declared.step.Step.TheVariants.{End, Good, Error}
-use Rattle.iter.specs.declared.step.StepAnswer.TheVariants.{Done, UnknownKind, TooLarge}
 use Rattle.iter.specs.Items.{name_in}
 use Rattle.iter.specs.Step.{step_by, step_of, step_answer}
 use Rattle.walker.specs.Walk.{next_of, line_behind, handed_on, feeds_of, AlwaysTrue}
 use Rattle.walker.proofs.Feeds.{record_feeds}
+use Rattle.std.specs.declared.result.Result.{Result}
+use Rattle.std.specs.declared.result.Result.TheVariants.{Err, Ok}
+use Rattle.decode.specs.declared.reference.Fault.{Fault}
+use Rattle.decode.specs.declared.reference.Record.{Record}
+use Rattle.parse.specs.declared.limit.NotAdmitted.{NotAdmitted}
+use Rattle.parse.specs.declared.limit.NotAdmitted.TheVariants.{TooLarge, UnknownKind}
 
 -- ---- what the walk reckons with are the line feeds of the item
 
@@ -55,10 +56,10 @@ module _ (n : ℕ) (s : List ℕ) (place : ℕ) where
   unfolding step_of
   feeds_told prefix line = go (ltb place (length s)) (record_of paper n t) refl
     where
-      go : (b : Bool) (w : Reading) → record_of paper n t ≡ w → feeds_to s place (if b (step_by n prefix s place line w) (End (length s))) ≡ feeds_of place (if b (step_by n prefix s place line w) (End (length s)))
+      go : (b : Bool) (w : Result Record Fault) → record_of paper n t ≡ w → feeds_to s place (if b (step_by n prefix s place line w) (End (length s))) ≡ feeds_of place (if b (step_by n prefix s place line w) (End (length s)))
       go false w e = refl
-      go true (reading.Bad f) e = error_feeds line (place + line_len t - place) (omega arith)
-      go true (reading.Good r) e = by (begins prefix (name_in n (reading.Good r) t))
+      go true (Err f) e = error_feeds line (place + line_len t - place) (omega arith)
+      go true (Ok r) e = by (begins prefix (name_in n (Ok r) t))
         where
           by : (b : Bool) → feeds_to s place (if b (Good r (place + r.size)) (End (length s))) ≡ feeds_of place (if b (Good r (place + r.size)) (End (length s)))
           by false = refl
@@ -75,18 +76,18 @@ behind_told s place line h (End next) = go (ltb (line + 0) 18446744073709551615)
     go false e = omega (arith, ltb-false (line + 0) 18446744073709551615 e)
 
 -- so what the walk hands on is what it is to hand on
-pub walked_on : (kind : ℕ) (s : List ℕ) (place line : ℕ) (step : Step) → line < 18446744073709551616 → step_answer kind [] s place line ≡ Done step
+pub walked_on : (kind : ℕ) (s : List ℕ) (place line : ℕ) (step : Step) → line < 18446744073709551616 → step_answer kind [] s place line ≡ Ok step
     → at_most (line + feeds_of place step) ≡ line_behind s place line step
 unfolding step_answer
 walked_on kind s place line step h e = go (admission kind (length s) 0) e
   where
-    go : (a : Admission) → admit a (λ n. Done (step_of paper n [] s place line)) UnknownKind TooLarge ≡ Done step
+    go : (a : Result ℕ NotAdmitted) → admit a (λ n. Ok (step_of paper n [] s place line)) (Err UnknownKind) (Err TooLarge) ≡ Ok step
         → at_most (line + feeds_of place step) ≡ line_behind s place line step
-    go (admission-is.Digits n) q =
+    go (Ok n) q =
         let z : step_of paper n [] s place line ≡ step = cc in
         ap (λ (k : ℕ). at_most (line + k)) (sym (rw z at (feeds_told n s place [] line))) ∙ behind_told s place line h step
-    go admission-is.UnknownKind q = absurd (let z : ◌≡◌ {A = ℕ} 0 1 = cc in omega arith)
-    go admission-is.TooLarge q = absurd (let z : ◌≡◌ {A = ℕ} 0 1 = cc in omega arith)
+    go (Err UnknownKind) q = absurd (let z : ◌≡◌ {A = ℕ} 0 1 = cc in omega arith)
+    go (Err TooLarge) q = absurd (let z : ◌≡◌ {A = ℕ} 0 1 = cc in omega arith)
 
 -- ---- the true line number
 
@@ -113,20 +114,20 @@ module _ (s : List ℕ) (small : length s ≤ 1073741824) (place : ℕ) where
   unfolding step_of
   true_on n line = go (ltb place (length s)) refl (record_of paper n (drop place s))
     where
-      go : (b : Bool) → ltb place (length s) ≡ b → (w : Reading)
+      go : (b : Bool) → ltb place (length s) ≡ b → (w : Result Record Fault)
           → line_behind s place (line_number s place) (if b (step_by n [] s place line w) (End (length s))) ≡ line_number s (next_of (if b (step_by n [] s place line w) (End (length s))))
       go false e w = number_end s place (ltb-false place (length s) e)
-      go true e (reading.Bad f) = on_by (line_len (drop place s))
-      go true e (reading.Good r) = on_by r.size
+      go true e (Err f) = on_by (line_len (drop place s))
+      go true e (Ok r) = on_by r.size
 
 pub always_true : AlwaysTrue
 unfolding step_answer
 always_true kind s place = record { same = refl; on = λ step e. go (admission kind (length s) 0) refl step e }
   where
-    go : (a : Admission) → admission kind (length s) 0 ≡ a → (step : Step) → admit a (λ n. Done (step_of paper n [] s place (line_number s place))) UnknownKind TooLarge ≡ Done step
+    go : (a : Result ℕ NotAdmitted) → admission kind (length s) 0 ≡ a → (step : Step) → admit a (λ n. Ok (step_of paper n [] s place (line_number s place))) (Err UnknownKind) (Err TooLarge) ≡ Ok step
         → handed_on s place (line_number s place) (step_answer kind [] s place (line_number s place)) ≡ line_number s (next_of step)
-    go (admission-is.Digits n) d step q =
+    go (Ok n) d step q =
         let z : step_of paper n [] s place (line_number s place) ≡ step = cc in
         rw d (rw z (rw z at (true_on s (admitted kind (length s) 0 n d).1 place n (line_number s place))))
-    go admission-is.UnknownKind d step q = absurd (let z : ◌≡◌ {A = ℕ} 0 1 = cc in omega arith)
-    go admission-is.TooLarge d step q = absurd (let z : ◌≡◌ {A = ℕ} 0 1 = cc in omega arith)
+    go (Err UnknownKind) d step q = absurd (let z : ◌≡◌ {A = ℕ} 0 1 = cc in omega arith)
+    go (Err TooLarge) d step q = absurd (let z : ◌≡◌ {A = ℕ} 0 1 = cc in omega arith)

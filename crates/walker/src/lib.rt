@@ -4,12 +4,14 @@
 ghost use Rattle.std.specs.Prelude.{◌≡◌};
 ghost use Rattle.walker.specs.Walk.{walk_answer, feeds_of};
 
-use iter::step::{Step, StepAnswer};
+use iter::step::Step;
+use parse::limit::NotAdmitted;
 
+// The line stands beside the answer and not in it: a refusal tells one, too, which is 0 (`handed_on`), and a reply takes it as it stands.
 #[derive(Clone, Copy)]
 pub struct Walked {
     // An error tells the line number that was given.
-    pub answer: StepAnswer,
+    pub answer: Result<Step, NotAdmitted>,
     // The line number of the next place; at an end the one that was given.
     pub line: u64,
 }
@@ -19,12 +21,11 @@ pub fn walk(kind: u32, s: &[u8], place: usize, line: u64) -> Walked
 {
     let answer = iter::step::next_on_line(kind, s, &s[0..0], place, line);
     match answer {
-        StepAnswer::Done(step) => Walked {
+        Ok(step) => Walked {
             answer,
             line: line_number::more_lines(line, feeds_of(place, step)),
         },
-        StepAnswer::UnknownKind => Walked { answer, line: 0 },
-        StepAnswer::TooLarge => Walked { answer, line: 0 },
+        Err(_) => Walked { answer, line: 0 },
     }
 }
 
@@ -34,26 +35,14 @@ fn feeds_of(place: usize, step: Step) -> u64
     ensures { result ≡ feeds_of place step }
 {
     match step {
-        Step::End { next: _ } => 0,
-        Step::Good { found, next: _ } => {
-            if found.peeled == 0 {
-                return 1;
+        Step::End { .. } => 0,
+        Step::Good { found, .. } => { if found.peeled.is_some() { 2 } else { 1 } }
+        Step::Error { text, next, .. } => {
+            if text < next.saturating_sub(place) {
+                1
+            } else {
+                0
             }
-            2
-        }
-        Step::Error {
-            fault: _,
-            line: _,
-            text,
-            next,
-        } => {
-            if next <= place {
-                return 0;
-            }
-            if text < next - place {
-                return 1;
-            }
-            0
         }
     }
 }

@@ -38,21 +38,6 @@ bytes_eight s at all = bytes_take 8 (drop at s) (bytes_drop at s all)
 pub length_eight : (s : List ℕ) (at : ℕ) → at + 8 ≤ length s → length (eight s at) ≡ 8
 length_eight s at h = length-take-le 8 (drop at s) (omega (arith, length-drop at s))
 
-module _ (s : List ℕ) (at : ℕ) where
-  -- n bytes, the first of them k behind the place
-  abbrev pub run : ℕ → ℕ → List ℕ
-  run zero k = []
-  run (suc n) k = get_or s (at + k) 0 ∷ run n (suc k)
-
-  pub run_is : (n k : ℕ) → at + k + n ≤ length s → take n (drop (at + k) s) ≡ run n k
-  run_is zero k h = refl
-  run_is (suc n) k h =
-      rw (drop-cons s (at + k) 0 (omega arith)) (ap (λ (r : List ℕ). get_or s (at + k) 0 ∷ r) (rw (← add-suc at k) (run_is n (suc k) (omega arith))))
-
-  pub eight_is : at + 8 ≤ length s → eight s at ≡ get_or s at 0 ∷ run 7 1
-  eight_is h =
-      ap (λ (i : ℕ). take 8 (drop i s)) (sym (add-zero at)) ∙ run_is 8 0 (omega arith) ∙ ap (λ (i : ℕ). get_or s i 0 ∷ run 7 1) (add-zero at)
-
 -- ---- the other way round
 
 -- what stands behind the bytes that are turned, and the bytes

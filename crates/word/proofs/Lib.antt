@@ -1,4 +1,5 @@
 pub mod Bytes
+pub mod Eights
 pub mod Numbers
 pub mod Masks
 pub mod Zeros

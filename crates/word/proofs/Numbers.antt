@@ -1,10 +1,12 @@
 -- Numbers of digits to the base 256: their bound, and the two ends that they are read from.
-use mathlib.Core.Path.{◌≡◌, sym, ap, ◌∙◌}
+use mathlib.Core.Path.{◌≡◌, refl, sym, ap, ◌∙◌}
 use mathlib.Core.List.{List, [], ◌∷◌, reverse, reverse_aux}
 use Prim.Native.Nat.{ℕ, suc, ◌+◌, ◌*◌, ◌^◌, ◌≤◌, ◌<◌}
 use native.Mathlib.Nat.{mul-add, mul_assoc, mul_comm, mul-zero, suc-mul, pow-suc, mul-le-mul_right}
 use native.Mathlib.Omega.{arith}
-use lib.ListN.{length}
+use lib.ListN.{length, get_or, drop, length-drop, drop_of_length-le}
+use lib.Seq.{drop-cons}
+use Rattle.std.specs.Int.{w64, from_le_bytes, from_be_bytes}
 use Rattle.word.specs.Number.{Bytes, digits, number_of}
 
 -- one digit more
@@ -47,3 +49,30 @@ pub number_same_first : (b : ℕ) (s t : List ℕ) → length s ≡ length t →
 number_same_first b s t same =
     let scale : b * 256 ^ length s ≡ b * 256 ^ length t = ap (λ (n : ℕ). b * 256 ^ n) same in
     omega (arith, scale)
+
+-- ---- eight bytes, as std reads them
+
+-- each digit in its turn
+first_digit : (s : List ℕ) (i : ℕ) → i < length s → digits (drop i s) ≡ get_or s i 0 + 256 * digits (drop (suc i) s)
+first_digit s i h = rw (drop-cons s i 0 h)
+
+first_highest : (s : List ℕ) (i n : ℕ) → i + suc n ≡ length s → number_of (drop i s) ≡ get_or s i 0 * 256 ^ n + number_of (drop (suc i) s)
+first_highest s i n h =
+    let left : length (drop (suc i) s) ≡ n = omega (arith, length-drop (suc i) s) in
+    rw (drop-cons s i 0 (omega arith), left)
+
+module _ (s : List ℕ) (long : length s ≡ 8) where
+  none_behind : drop 8 s ≡ []
+  none_behind = let most : length s ≤ 8 = omega arith in drop_of_length-le s most
+
+  pub le_digits : from_le_bytes w64 s ≡ digits s
+  le_digits =
+      let end : digits (drop 8 s) ≡ 0 = ap digits none_behind in
+      let at = λ (i : ℕ) (h : i < 8). first_digit s i (omega arith) in
+      omega (arith, at 0 (omega arith), at 1 (omega arith), at 2 (omega arith), at 3 (omega arith), at 4 (omega arith), at 5 (omega arith), at 6 (omega arith), at 7 (omega arith))
+
+  pub be_number : from_be_bytes w64 s ≡ number_of s
+  be_number =
+      let end : number_of (drop 8 s) ≡ 0 = ap number_of none_behind in
+      let at = λ (i n : ℕ) (h : i + suc n ≡ 8). first_highest s i n (omega arith) in
+      omega (arith, at 0 7 refl, at 1 6 refl, at 2 5 refl, at 3 4 refl, at 4 3 refl, at 5 2 refl, at 6 1 refl, at 7 0 refl)

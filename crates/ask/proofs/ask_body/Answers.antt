@@ -9,31 +9,35 @@ use lib.ListN.{length, take, drop}
 use Rattle.class.specs.Class.{paper}
 use Rattle.compare.specs.Prefix.{same}
 use Rattle.decode.specs.declared.reference.Record.{Record}
-use Rattle.checks.specs.declared.Turn.{Turn}
-use Rattle.checks.specs.declared.Turn.TheVariants.{On}
-use Rattle.checks.specs.declared.Verdict.{Verdict}
 use Rattle.checks.specs.Check.{judge_from, judge_body, count_before}
-use Rattle.ask.specs.declared.Sought.{Sought}
 use Rattle.ask.specs.declared.Told.TheVariants.{Charted}
 use Rattle.ask.specs.Ask.{sought_from, told_of, ask_body}
 use Rattle.iter.proofs.ItemRead.{goes_on, named, named_is}
-use Rattle.checks.proofs.CheckTurns.{Spot, turn_at, Turned, turned, judged_after, before_is}
+use Rattle.checks.proofs.CheckTurns.{Spot, spot, turn_at, Turned, turned, judged_after, before_is}
 use Rattle.ask.proofs.Seeking.{ask_from, ask_at, ask_turn, ask_end, ask_found, ask_on}
 use borrow.Author.Rules.{rules}
 use Rattle.ask.proofs.ask_body.Goals as goal
+use Rattle.ask.specs.declared.Found.{Found}
+use Rattle.checks.specs.declared.Refusal.{Refusal}
+use Rattle.std.specs.declared.option.Option.{Option}
+use Rattle.std.specs.declared.option.Option.TheVariants.{Some}
+use Rattle.std.specs.declared.result.Result.{Result}
+use Rattle.std.specs.declared.result.Result.TheVariants.{Ok}
 
-abbrev spot : ℕ → List ℕ → ℕ → List ℕ → Spot
-spot n file place last = record { byte = paper; n = n; file = file; place = place; last = last }
+-- a turn that told a record
+module _ {n : ℕ} {file : List ℕ} {place : ℕ} (last : List ℕ) {t : Result (Option Record) Refusal} {x : Option Record} {r : Record} where
+  turned_on : t ≡ turn_at (spot n file place last) → t ≡ Ok x → x ≡ Some r → Turned (spot n file place last) (Ok (Some r))
+  turned_on e is some = turned (spot n file place last) t (Ok (Some r)) e (is ∙ ap Ok some)
 
 module _ (s : Spot) (name : List ℕ) (count : ℕ) where
   -- where the check ends at a fault, what is sought from there on decides
-  stopped : {t w : Turn} → t ≡ turn_at s → t ≡ w → {x : Sought} → x ≡ sought_from s.byte s.n s.file s.place name
+  stopped : {t w : (Result (Option Record) Refusal)} → t ≡ turn_at s → t ≡ w → {x : (Option Found)} → x ≡ sought_from s.byte s.n s.file s.place name
       → told_of x (judged_after s count w) ≡ ask_at s name count
   stopped {t} {w} e is sought =
       ap (λ v. told_of v (judged_after s count w)) sought ∙ sym (ask_turn s name count w (turned s t w e is))
 
   -- a record was found, and its name was cut out
-  module _ {r : Record} (k : Turned s (On r)) where
+  module _ {r : Record} (k : Turned s (Ok (Some r))) where
     -- no more records than bytes have passed
     few : count ≤ s.place → count + 1 ≤ s.place + r.size
     few h = omega (arith, goes_on k.0, h)
@@ -42,7 +46,7 @@ module _ (s : Spot) (name : List ℕ) (count : ℕ) where
       wanted : {b : Bool} → is ≡ b → same name (named k.0) ≡ b
       wanted e = ap (same name) (sym (named_is k.0 cut)) ∙ sym i ∙ e
 
-      found : count ≤ s.place → is ≡ true → {v : Verdict} → v ≡ judge_from s.byte s.n s.file (s.place + r.size) (count_before (count + 1) (s.place + r.size)) x
+      found : count ≤ s.place → is ≡ true → {v : (Result ℕ Refusal)} → v ≡ judge_from s.byte s.n s.file (s.place + r.size) (count_before (count + 1) (s.place + r.size)) x
           → Charted s.place r v ≡ ask_at s name count
       found h e v =
           ap (Charted s.place r)
@@ -52,64 +56,51 @@ module _ (s : Spot) (name : List ℕ) (count : ℕ) where
       other : is ≡ false → ask_at s name count ≡ ask_from s.byte s.n s.file name (s.place + r.size) (count + 1) x
       other e = rw add-one (ask_on s name count r k x (named_is k.0 cut) (wanted e))
 
-pub loop-why-init : goal.loop-why-init
+pub loop-found-init : goal.loop-found-init
 unfolding ask_body judge_body
-loop-why-init c = (search rules, refl)
+loop-found-init c = (search rules, refl)
 
-pub returns-in-End : goal.returns-in-End
-returns-in-End c =
-    let a = c.args in let l = c.loop-why in
+pub returns-in-Ok-None : goal.returns-in-Ok-None
+returns-in-Ok-None c =
+    let a = c.args in let l = c.loop-found in
     let s = spot a.n a.file.now l.place l.last.now in
-    sym (ask_end s a.name.now l.count (turned s _ _ c.take_turn.ensures c.in-End.is)) ∙ l.invariant.1
+    sym (ask_end s a.name.now l.count (turned s _ _ c.take_turn.ensures (c.in-Ok-None.is ∙ ap Ok c.in-Ok-None.field-0-is))) ∙ l.invariant.1
 
-pub returns-in-Refused : goal.returns-in-Refused
-returns-in-Refused c =
-    let a = c.args in let l = c.loop-why in
+pub returns-in-Err : goal.returns-in-Err
+returns-in-Err c =
+    let a = c.args in let l = c.loop-found in
     let s = spot a.n a.file.now l.place l.last.now in
     c.tell.ensures
     ∙ ap (told_of c.first_named-sought.result) c.refused.ensures
-    ∙ stopped s a.name.now l.count c.take_turn.ensures c.in-Refused.is c.first_named-sought.ensures
+    ∙ stopped s a.name.now l.count c.take_turn.ensures c.in-Err.is c.first_named-sought.ensures
     ∙ l.invariant.1
 
 pub slice_bounds-name_of-count : goal.slice_bounds-name_of-count
-slice_bounds-name_of-count c =
-    let a = c.args in let l = c.loop-why in
-    omega (arith, (turned (spot a.n a.file.now l.place l.last.now) _ (On c.in-On.found) c.take_turn.ensures c.in-On.is).0.inside)
+slice_bounds-name_of-count c = omega (arith, (turned_on _ c.take_turn.ensures c.in-Ok-Some.is c.in-Ok-Some.field-0-is).0.inside)
 
 pub slice_bounds-name_of-start : goal.slice_bounds-name_of-start
-slice_bounds-name_of-start c =
-    let a = c.args in let l = c.loop-why in
-    omega (arith, (turned (spot a.n a.file.now l.place l.last.now) _ (On c.in-On.found) c.take_turn.ensures c.in-On.is).0.inside)
+slice_bounds-name_of-start c = omega (arith, (turned_on _ c.take_turn.ensures c.in-Ok-Some.is c.in-Ok-Some.field-0-is).0.inside)
 
 pub overflow_add-count : goal.overflow_add-count
 overflow_add-count c =
-    let a = c.args in let l = c.loop-why in
-    let k = turned (spot a.n a.file.now l.place l.last.now) _ (On c.in-On.found) c.take_turn.ensures c.in-On.is in
-    omega (arith, goes_on k.0, l.invariant.0, c.well_formed)
+    omega (arith, goes_on (turned_on _ c.take_turn.ensures c.in-Ok-Some.is c.in-Ok-Some.field-0-is).0, c.loop-found.invariant.0, c.well_formed)
 
 pub overflow_add-next : goal.overflow_add-next
-overflow_add-next c =
-    let a = c.args in let l = c.loop-why in
-    let k = turned (spot a.n a.file.now l.place l.last.now) _ (On c.in-On.found) c.take_turn.ensures c.in-On.is in
-    omega (arith, goes_on k.0, c.well_formed)
+overflow_add-next c = omega (arith, goes_on (turned_on _ c.take_turn.ensures c.in-Ok-Some.is c.in-Ok-Some.field-0-is).0, c.well_formed)
 
 pub returns-then-is_same : goal.returns-then-is_same
 returns-then-is_same c =
-    let a = c.args in let l = c.loop-why in
-    let s = spot a.n a.file.now l.place l.last.now in
-    let k = turned s _ (On c.in-On.found) c.take_turn.ensures c.in-On.is in
-    found s a.name.now l.count k c.name_of-last.ensures c.is_same.ensures l.invariant.0 c.if-is_same.true c.check_from-verdict.ensures ∙ l.invariant.1
+    let a = c.args in let l = c.loop-found in
+    let k = turned_on _ c.take_turn.ensures c.in-Ok-Some.is c.in-Ok-Some.field-0-is in
+    found _ a.name.now l.count k c.name_of-last.ensures c.is_same.ensures l.invariant.0 c.if-is_same.true c.check_from-verdict.ensures ∙ l.invariant.1
 
-pub loop-why-smaller : goal.loop-why-smaller
-loop-why-smaller c =
-    let a = c.args in let l = c.loop-why in
-    omega (arith, goes_on (turned (spot a.n a.file.now l.place l.last.now) _ (On c.in-On.found) c.take_turn.ensures c.in-On.is).0)
+pub loop-found-smaller : goal.loop-found-smaller
+loop-found-smaller c = omega (arith, goes_on (turned_on _ c.take_turn.ensures c.in-Ok-Some.is c.in-Ok-Some.field-0-is).0)
 
-pub loop-why-preserved : goal.loop-why-preserved
-loop-why-preserved c =
-    let a = c.args in let l = c.loop-why in
-    let s = spot a.n a.file.now l.place l.last.now in
-    let k = turned s _ (On c.in-On.found) c.take_turn.ensures c.in-On.is in (
-      few s a.name.now l.count k l.invariant.0,
-      sym (other s a.name.now l.count k c.name_of-last.ensures c.is_same.ensures c.if-is_same.false) ∙ l.invariant.1,
+pub loop-found-preserved : goal.loop-found-preserved
+loop-found-preserved c =
+    let a = c.args in let l = c.loop-found in
+    let k = turned_on _ c.take_turn.ensures c.in-Ok-Some.is c.in-Ok-Some.field-0-is in (
+      few _ a.name.now l.count k l.invariant.0,
+      sym (other _ a.name.now l.count k c.name_of-last.ensures c.is_same.ensures c.if-is_same.false) ∙ l.invariant.1,
     )

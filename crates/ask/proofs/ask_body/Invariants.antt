@@ -7,8 +7,8 @@ use Rattle.ask.specs.Ask.{ask_body}
 use Rattle.ask.proofs.Seeking.{ask_from}
 use Rattle.ask.proofs.ask_body.Given as goal
 
-abbrev pub invariant-loop-why : goal.invariant-loop-why
-invariant-loop-why l = (l.count ≤ l.place) × (ask_from paper l.n l.file l.name l.place l.count l.last ≡ ask_body paper l.n l.file l.body l.name)
+abbrev pub invariant-loop-found : goal.invariant-loop-found
+invariant-loop-found l = (l.count ≤ l.place) × (ask_from paper l.n l.file l.name l.place l.count l.last ≡ ask_body paper l.n l.file l.body l.name)
 
-abbrev pub decreases-loop-why : goal.decreases-loop-why
-decreases-loop-why l = length l.file - l.place
+abbrev pub decreases-loop-found : goal.decreases-loop-found
+decreases-loop-found l = length l.file - l.place

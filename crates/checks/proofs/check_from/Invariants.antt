@@ -7,8 +7,8 @@ use Rattle.iter.specs.Items.{items}
 use Rattle.checks.specs.Check.{judge, judge_from, count_before}
 use Rattle.checks.proofs.check_from.Given as goal
 
-abbrev pub invariant-loop-why : goal.invariant-loop-why
-invariant-loop-why l = (l.count ≤ l.place) × (judge l.n l.place l.count l.last (items paper l.n (drop l.place l.file)) ≡ judge_from paper l.n l.file l.from (count_before l.passed l.from) l.name)
+abbrev pub invariant-loop-found : goal.invariant-loop-found
+invariant-loop-found l = (l.count ≤ l.place) × (judge l.n l.place l.count l.last (items paper l.n (drop l.place l.file)) ≡ judge_from paper l.n l.file l.from (count_before l.passed l.from) l.name)
 
-abbrev pub decreases-loop-why : goal.decreases-loop-why
-decreases-loop-why l = length l.file - l.place
+abbrev pub decreases-loop-found : goal.decreases-loop-found
+decreases-loop-found l = length l.file - l.place

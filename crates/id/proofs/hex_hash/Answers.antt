@@ -3,19 +3,20 @@ use mathlib.Core.Path.{sym, ap, ◌∙◌}
 use native.Mathlib.Omega.{arith}
 use borrow.Author.Tests.{leb-true, leb-false}
 use lib.ListN.{drop, length-drop}
-use Rattle.parse.specs.declared.part.Past.TheVariants.{At}
 use Rattle.class.specs.Class.{paper, is_hex}
 use Rattle.parse.proofs.Runs.{span_le, span_end}
+use Rattle.id.proofs.Digits.{in_slice}
 use Rattle.id.proofs.Ids.{id_read, id_unread}
 use Rattle.id.proofs.hex_hash.Goals as goal
+use Rattle.std.specs.declared.option.Option.TheVariants.{Some}
 
 pub returns-then-n-eq0 : goal.returns-then-n-eq0
 returns-then-n-eq0 c =
     let a = c.args in
-    ap At (omega arith) ∙ sym (id_read paper a.n a.s.now a.at (omega arith))
+    ap Some (omega arith) ∙ sym (id_read paper a.n a.s.now a.at (omega arith))
 
-pub returns-then-s-at : goal.returns-then-s-at
-returns-then-s-at c =
+pub returns-else-n-eq0 : goal.returns-else-n-eq0
+returns-else-n-eq0 c =
     let a = c.args in
     sym (id_unread paper a.n a.s.now a.at (omega (arith, span_end is_hex a.s.now a.at (omega arith))))
 
@@ -27,9 +28,9 @@ returns-then-s-at-2 c =
 pub returns-then-all_hex : goal.returns-then-all_hex
 returns-then-all_hex c =
     let a = c.args in
-    sym (id_read paper a.n a.s.now a.at (leb-true _ _ (sym c.all_hex.ensures ∙ c.if-all_hex.true)))
+    sym (id_read paper a.n a.s.now a.at (leb-true _ _ (in_slice is_hex a.s.now a.at a.n (omega arith) ∙ sym c.all_hex.ensures ∙ c.if-all_hex.true)))
 
-pub returns : goal.returns
-returns c =
+pub returns-else-all_hex : goal.returns-else-all_hex
+returns-else-all_hex c =
     let a = c.args in
-    sym (id_unread paper a.n a.s.now a.at (leb-false _ _ (sym c.all_hex.ensures ∙ c.if-all_hex.false)))
+    sym (id_unread paper a.n a.s.now a.at (leb-false _ _ (in_slice is_hex a.s.now a.at a.n (omega arith) ∙ sym c.all_hex.ensures ∙ c.if-all_hex.false)))

@@ -6,23 +6,25 @@ use native.Mathlib.Nat.{sub-zero}
 use native.Mathlib.Omega.{arith}
 use lib.ListN.{length, take}
 use Rattle.class.specs.Class.{paper}
-use Rattle.edits.specs.declared.list.Prepared.{Prepared}
-use Rattle.edits.specs.declared.list.Prepared.TheVariants.{Ready}
 use Rattle.edits.specs.List.{edits_of, places_of, prepared_of, index_after}
 use Rattle.merge.specs.Override.{edits_at}
 use Rattle.merge.specs.Merge.{new_file, output_by, old_entries, judged, edits_in_order, listed, merge_of, output_of}
 use Rattle.merge.specs.Splice.{Rising}
-use Rattle.merge.proofs.Answers.{list_refused}
+use Rattle.merge.proofs.Answers.{list_leaves}
 use Rattle.merge.proofs.EditsRise.{in_order_rising}
 use Rattle.merge.proofs.Ready.{places, ready, front_is}
 use Rattle.merge.proofs.merge_with_digits.Goals as goal
+use Rattle.std.specs.declared.result.Result.{Result}
+use Rattle.std.specs.declared.result.Result.TheVariants.{Err, Ok}
+use Rattle.std.proofs.lemmas.Result.{err_from_is_err_and}
+use Rattle.edits.specs.declared.list.NotPrepared.{NotPrepared}
 
 -- the edit list was read
 module _ (n : ℕ) (old list index out : List ℕ) where
   abbrev new : List ℕ
   new = new_file (old_entries paper n old) (edits_in_order paper n old list)
 
-  module _ (q : Prepared) (e : prepared_of paper n list (length index) ≡ q) where
+  module _ (q : Result ℕ NotPrepared) (e : prepared_of paper n list (length index) ≡ q) where
     merge_is : merge_of paper n old list (length index) (length out) ≡ listed paper n old list (length out) q
     unfolding merge_of
     merge_is = ap (listed paper n old list (length out)) e
@@ -32,7 +34,7 @@ module _ (n : ℕ) (old list index out : List ℕ) where
     output_is = ap (output_by new out) merge_is
 
 -- it is ready
-module _ (n : ℕ) (old list index after : List ℕ) (k : ℕ) (e : prepared_of paper n list (length index) ≡ Ready k) (i : after ≡ index_after paper n list index) where
+module _ (n : ℕ) (old list index after : List ℕ) (k : ℕ) (e : prepared_of paper n list (length index) ≡ Ok k) (i : after ≡ index_after paper n list index) where
   abbrev sorted : List ℕ
   sorted = places paper n list index k e
 
@@ -53,21 +55,21 @@ module _ (n : ℕ) (old list index after : List ℕ) (k : ℕ) (e : prepared_of 
 pub slice_bounds-with_edits-end : goal.slice_bounds-with_edits-end
 slice_bounds-with_edits-end c =
     let a = c.args in
-    let e = sym c.prepare.ensures.value ∙ c.in-Ready.is in
-    omega (arith, (ready paper a.n a.list.now a.index.now c.in-Ready.k e).room_enough)
+    let e = sym c.prepare.ensures.value ∙ c.in_ok-k.was in
+    omega (arith, (ready paper a.n a.list.now a.index.now c.in_ok-k.k e).room_enough)
 
 pub with_edits-requires : goal.with_edits-requires
 with_edits-requires c =
     let a = c.args in
-    let e = sym c.prepare.ensures.value ∙ c.in-Ready.is in
+    let e = sym c.prepare.ensures.value ∙ c.in_ok-k.was in
     let i = c.prepare.ensures.index_after in
-    (few a.n a.old.now a.list.now a.index.now _ c.in-Ready.k e i, rising a.n a.old.now a.list.now a.index.now _ c.in-Ready.k e i)
+    (few a.n a.old.now a.list.now a.index.now _ c.in_ok-k.k e i, rising a.n a.old.now a.list.now a.index.now _ c.in_ok-k.k e i)
 
-pub returns-in-Ready : goal.returns-in-Ready
-returns-in-Ready c =
+pub returns : goal.returns
+returns c =
     let a = c.args in
-    let e = sym c.prepare.ensures.value ∙ c.in-Ready.is in
-    let edits = edits_are a.n a.old.now a.list.now a.index.now _ c.in-Ready.k e c.prepare.ensures.index_after in
+    let e = sym c.prepare.ensures.value ∙ c.in_ok-k.was in
+    let edits = edits_are a.n a.old.now a.list.now a.index.now _ c.in_ok-k.k e c.prepare.ensures.index_after in
     let answer = c.with_edits.ensures.value ∙ ap (λ x. judged paper a.n a.old.now x (length a.out.now)) edits in
     record {
       value = answer ∙ sym (merge_is a.n a.old.now a.list.now a.index.now a.out.now _ e);
@@ -78,42 +80,13 @@ returns-in-Ready c =
           ∙ sym (output_is a.n a.old.now a.list.now a.index.now a.out.now _ e);
     }
 
-pub returns-in-BadList : goal.returns-in-BadList
-returns-in-BadList c =
+pub returns-in_err-k : goal.returns-in_err-k
+returns-in_err-k c =
     let a = c.args in
-    let e = sym c.prepare.ensures.value ∙ c.in-BadList.is in
+    let e = sym c.prepare.ensures.value ∙ c.in_err-k.was in
+    let (why, answer, reason) = err_from_is_err_and c.from_residual.result c.from_residual.ensures.1 in
     record {
-      value = sym (merge_is a.n a.old.now a.list.now a.index.now a.out.now _ e);
+      value = answer ∙ ap Err reason ∙ sym (merge_is a.n a.old.now a.list.now a.index.now a.out.now _ e);
       index_after = c.prepare.ensures.index_after;
-      out_after = sym (output_is a.n a.old.now a.list.now a.index.now a.out.now _ e ∙ list_refused _ a.out.now c.in-BadList.why);
-    }
-
-pub returns-in-ShortIndex : goal.returns-in-ShortIndex
-returns-in-ShortIndex c =
-    let a = c.args in
-    let e = sym c.prepare.ensures.value ∙ c.in-ShortIndex.is in
-    record {
-      value = sym (merge_is a.n a.old.now a.list.now a.index.now a.out.now _ e);
-      index_after = c.prepare.ensures.index_after;
-      out_after = sym (output_is a.n a.old.now a.list.now a.index.now a.out.now _ e);
-    }
-
-pub returns-in-Twins : goal.returns-in-Twins
-returns-in-Twins c =
-    let a = c.args in
-    let e = sym c.prepare.ensures.value ∙ c.in-Twins.is in
-    record {
-      value = sym (merge_is a.n a.old.now a.list.now a.index.now a.out.now _ e);
-      index_after = c.prepare.ensures.index_after;
-      out_after = sym (output_is a.n a.old.now a.list.now a.index.now a.out.now _ e);
-    }
-
-pub returns-in-TooLarge : goal.returns-in-TooLarge
-returns-in-TooLarge c =
-    let a = c.args in
-    let e = sym c.prepare.ensures.value ∙ c.in-TooLarge.is in
-    record {
-      value = sym (merge_is a.n a.old.now a.list.now a.index.now a.out.now _ e);
-      index_after = c.prepare.ensures.index_after;
-      out_after = sym (output_is a.n a.old.now a.list.now a.index.now a.out.now _ e);
+      out_after = sym (output_is a.n a.old.now a.list.now a.index.now a.out.now _ e ∙ list_leaves _ a.out.now c.in_err-k.field-0.0);
     }

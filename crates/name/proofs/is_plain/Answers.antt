@@ -1,6 +1,6 @@
 -- `name::is_plain` meets its contract: what it asks of the ends and of the inside makes a valid name. Assumes nothing.
 use mathlib.Core.Path.{sym, ◌∙◌}
-use mathlib.Core.Bool.{not, ◌||◌, false≢true}
+use mathlib.Core.Bool.{not, ◌||◌}
 use Prim.Native.Nat.{◌-◌}
 use borrow.Author.Tests.{not-false}
 use lib.Dec.{eqb}
@@ -9,17 +9,8 @@ use Rattle.name.proofs.Bools.{neither}
 use Rattle.name.proofs.PlainNames.{plain_valid}
 use Rattle.name.proofs.is_plain.Goals as goal
 
-pub returns-then-n-lt17 : goal.returns-then-n-lt17
-returns-then-n-lt17 c = λ e. absurd (false≢true e)
-
-pub returns-then-begins_well-last : goal.returns-then-begins_well-last
-returns-then-begins_well-last c = λ e. absurd (false≢true e)
-
-pub returns-then-not-plain_inside : goal.returns-then-not-plain_inside
-returns-then-not-plain_inside c = λ e. absurd (false≢true e)
-
-pub returns : goal.returns
-returns c =
+pub returns-then-plain_inside : goal.returns-then-plain_inside
+returns-then-plain_inside c =
     let s = c.args.s.now in
     let last = get_or s (length s - 1) 0 in
     let well = neither (not c.is_plain_pair-begins_well.result) (eqb last 47 || (eqb last 46 || eqb last 107)) c.if-begins_well-last.false in
@@ -28,6 +19,6 @@ returns c =
     λ e. plain_valid
     s
     (sym c.is_plain_pair-begins_well.ensures ∙ not-false _ well.0)
-    (c.plain_inside.ensures (not-false _ c.if-not-plain_inside.false-raw))
+    (c.plain_inside.ensures c.if-plain_inside.true)
     (c.has_slash.ensures e)
     (no_slash.0, no-dot.0, no-dot.1)

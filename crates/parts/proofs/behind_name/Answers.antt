@@ -13,10 +13,10 @@ returns-in_default c = rw (sym c.length_at.ensures ∙ c.in_default.is)
 
 pub overflow_add-next : goal.overflow_add-next
 overflow_add-next c =
-    omega (arith, length_small c.args.list.now (c.args.place + 1) (sym c.length_at.ensures ∙ c.in-Of.is))
+    omega (arith, length_small c.args.list.now (c.args.place + 1) (sym c.length_at.ensures ∙ c.in-Some.is))
 
 pub returns : goal.returns
 unfolding behind_name
 returns c =
     let a = c.args in
-    rw (sym c.length_at.ensures ∙ c.in-Of.is) (c.between.ensures ∙ rest_is a.list.now (c.in-Of.next + c.in-Of.value))
+    rw (sym c.length_at.ensures ∙ c.in-Some.is) (c.between.ensures ∙ rest_is a.list.now (c.in-Some.field-0.next + c.in-Some.field-0.value))

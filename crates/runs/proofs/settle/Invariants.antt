@@ -1,9 +1,9 @@
 -- `runs::settle` meets its contract: the edits up to the first of a greater name are settled, one after another.
-use mathlib.Core.Path.{◌≡◌}
 use mathlib.Core.List.{List}
-use Prim.Native.Nat.{ℕ, ◌-◌}
-use lib.ListN.{length, drop}
-use Rattle.runs.specs.Runs.{Run, settles}
+use Prim.Native.Nat.{ℕ}
+use lib.ListN.{drop}
+use Rattle.runs.specs.Runs.{settles}
+use Rattle.runs.specs.declared.Run.{Run}
 use Rattle.runs.proofs.Marks.{Going}
 use Rattle.runs.proofs.settle.Given as goal
 
@@ -11,7 +11,4 @@ abbrev left : List ℕ → List ℕ → List ℕ → ℕ → ℕ → ℕ → Lis
 left list index name place next j = settles list name place next (drop j index)
 
 abbrev pub invariant-loop-j : goal.invariant-loop-j
-invariant-loop-j l = (length l.marks ≡ length l.initial.marks) × Going (left l.list l.index l.name l.place l.next) l.from l.initial.marks l.j l.marks
-
-abbrev pub decreases-loop-j : goal.decreases-loop-j
-decreases-loop-j l = length l.index - l.j
+invariant-loop-j l = Going (left l.list l.index l.name l.place l.next) l.from l.initial.marks l.j l.marks

@@ -1,9 +1,9 @@
 -- `runs::settle_rest` meets its contract: the edits that are left all get the same empty run.
-use mathlib.Core.Path.{◌≡◌}
-use Prim.Native.Nat.{ℕ, ◌-◌}
+use Prim.Native.Nat.{ℕ}
 use mathlib.Core.List.{List}
-use lib.ListN.{length, drop}
-use Rattle.runs.specs.Runs.{Run, at_end}
+use lib.ListN.{drop}
+use Rattle.runs.specs.Runs.{at_end}
+use Rattle.runs.specs.declared.Run.{Run}
 use Rattle.runs.proofs.Marks.{Going}
 use Rattle.runs.proofs.settle_rest.Given as goal
 
@@ -11,7 +11,4 @@ abbrev left : List ℕ → ℕ → ℕ → List Run
 left index place j = at_end place (drop j index)
 
 abbrev pub invariant-loop-j : goal.invariant-loop-j
-invariant-loop-j l = (length l.marks ≡ length l.initial.marks) × Going (left l.index l.place) l.from l.initial.marks l.j l.marks
-
-abbrev pub decreases-loop-j : goal.decreases-loop-j
-decreases-loop-j l = length l.index - l.j
+invariant-loop-j l = Going (left l.index l.place) l.from l.initial.marks l.j l.marks

@@ -11,7 +11,6 @@ use Rattle.runs.proofs.survey.Given as goal
 
 abbrev pub invariant-loop-marks : goal.invariant-loop-marks
 invariant-loop-marks l = l.count ≤ l.place
-    × (length l.marks ≡ length l.initial.marks)
     × (judge l.n l.place l.count l.last (items paper l.n (drop l.place l.file)) ≡ judge_body paper l.n l.file l.body)
     × (marked paper l.n l.file l.list l.index l.place l.last l.j l.marks ≡ marked paper l.n l.file l.list l.index l.body [] 0 l.initial.marks)
 

@@ -9,4 +9,4 @@ loop-k-init c =
 pub loop-k-preserved : goal.loop-k-preserved
 loop-k-preserved c =
     let child = c.larger_child-child in
-    down_step _ c.args.index.now _ _ c.loop-k.index _ c.loop-k.k child.result c.loop-k.invariant child.ensures c.requires.1 c.swap.ensures
+    down_step _ c.args.index.now _ _ c.loop-k.index _ c.loop-k.k child.result c.loop-k.invariant child.ensures c.requires.1 c.swap.ensures.after

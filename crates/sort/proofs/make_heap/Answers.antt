@@ -9,17 +9,17 @@ use Rattle.sort.proofs.make_heap.Goals as goal
 pub loop-root-init : goal.loop-root-init
 loop-root-init c =
     let a = c.args in
-    (omega arith, moved_none _ _, leaves (comes_first a.layout a.s.now) a.index.now (length a.index.now))
+    (moved_none _ _, leaves (comes_first a.layout a.s.now) a.index.now (length a.index.now))
 
 pub sink-requires : goal.sink-requires
-sink-requires c = (omega arith, omega arith, λ p d l e f. c.loop-root.invariant.2 p d (omega arith) e f)
+sink-requires c = (omega arith, omega arith, λ p d l e f. c.loop-root.invariant.1 p d (omega arith) e f)
 
 pub loop-root-preserved : goal.loop-root-preserved
 loop-root-preserved c =
     let s = c.sink.ensures in
-    (omega arith, moved_twice _ _ _ _ c.loop-root.invariant.1 s.1, s.0)
+    (moved_twice _ _ _ _ c.loop-root.invariant.0 s.1, s.0)
 
 pub returns : goal.returns
 returns c =
     let i = c.loop-root.invariant in
-    (λ p d l e f. i.2 p d (omega arith) e (omega arith), i.1)
+    (λ p d l e f. i.1 p d (omega arith) e (omega arith), i.0)

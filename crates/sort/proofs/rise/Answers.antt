@@ -20,7 +20,7 @@ pub loop-k-preserved : goal.loop-k-preserved
 loop-k-preserved c =
     let o = places_are_ordered c.args.layout c.args.s.now in
     let on = sym c.comes_first.ensures ∙ c.if-not-comes_first.false in
-    up_step o _ _ _ _ c.loop-k.k c.loop-k.invariant ((c.loop-k.k - 1) / 2) (omega arith) _ (omega arith) on c.requires.3 c.swap.ensures
+    up_step o _ _ _ _ c.loop-k.k c.loop-k.invariant ((c.loop-k.k - 1) / 2) (omega arith) _ (omega arith) on c.requires.3 c.swap.ensures.after
 
 pub returns : goal.returns
 returns c =

@@ -5,6 +5,3 @@ use Rattle.sort.proofs.sort.Given as goal
 
 abbrev pub invariant-loop-n : goal.invariant-loop-n
 invariant-loop-n l = Emptying (comes_first l.layout l.s) l.initial.index l.index l.n
-
-abbrev pub decreases-loop-n : goal.decreases-loop-n
-decreases-loop-n l = l.n

@@ -1,18 +1,16 @@
 -- `start::begin` meets its contract: 1 and 17 first, then the rest.
 use mathlib.Core.Path.{sym, ap, ◌∙◌}
-use Rattle.start.specs.declared.StartAnswer.TheVariants.{Done}
-use Rattle.start.specs.Start.{start_answer}
+use Rattle.std.specs.declared.result.Result.TheVariants.{Ok}
+use Rattle.class.specs.Class.{paper}
+use Rattle.parse.proofs.Admitted.{refused}
+use Rattle.start.specs.Start.{start_of, start_answer}
 use Rattle.start.proofs.begin.Goals as goal
 
-pub returns-in-Digits : goal.returns-in-Digits
+pub returns-in_err-admit : goal.returns-in_err-admit
 unfolding start_answer
-returns-in-Digits c =
-    rw (sym c.admit.ensures ∙ c.in-Digits.is) (ap Done c.begin_without_kind.ensures)
+returns-in_err-admit c =
+    refused (λ n. Ok (start_of paper c.args.file.now)) _ c.from_residual.result (sym c.admit.ensures ∙ c.in_err-admit.was) c.from_residual.ensures.1
 
-pub returns-in-UnknownKind : goal.returns-in-UnknownKind
+pub returns : goal.returns
 unfolding start_answer
-returns-in-UnknownKind c = rw (sym c.admit.ensures ∙ c.in-UnknownKind.is)
-
-pub returns-in-TooLarge : goal.returns-in-TooLarge
-unfolding start_answer
-returns-in-TooLarge c = rw (sym c.admit.ensures ∙ c.in-TooLarge.is)
+returns c = rw (← c.admit.ensures, c.in_ok-admit.was) (ap Ok c.begin_without_kind.ensures)

@@ -1,14 +1,15 @@
 -- `start::begin_without_kind` meets its contract.
-use mathlib.Core.Path.{sym, ap, ◌∙◌}
-use Rattle.start.specs.declared.Start.TheVariants.{At}
-use Rattle.start.specs.Start.{start_of}
+use mathlib.Core.Path.{ap}
+use Rattle.std.proofs.lemmas.Result.{err_from_is_err_and}
+use Rattle.start.specs.Start.{start_of, starts_at}
 use Rattle.start.proofs.begin_without_kind.Goals as goal
 
-pub returns-in-Unreadable : goal.returns-in-Unreadable
+pub returns-in_err-header : goal.returns-in_err-header
 unfolding start_of
-returns-in-Unreadable c = rw (sym c.open.ensures ∙ c.in-Unreadable.is)
+returns-in_err-header c =
+    let p = err_from_is_err_and c.from_residual.result c.from_residual.ensures.1 in
+    rw (p.1, p.2, ← c.open.ensures, c.in_err-header.was)
 
-pub returns-in-Header : goal.returns-in-Header
+pub returns : goal.returns
 unfolding start_of
-returns-in-Header c =
-    rw (sym c.open.ensures ∙ c.in-Header.is) (ap (At c.in-Header.h.body) c.start_line.ensures)
+returns c = rw (← c.open.ensures, c.in_ok-header.was) (ap (starts_at c.in_ok-header.header.body) c.start_line.ensures)

@@ -1,12 +1,13 @@
--- `tell::peeled_at` meets its contract.
-use borrow.Author.Tests.{eq-eqb, ne_eqb}
-use Rattle.tell.specs.Told.{peeled_at}
+-- `tell::peeled_at` meets its contract: both places are within the limit, so the sum fits.
+use mathlib.Core.Path.{◌≡◌}
+use Prim.Native.Nat.{ℕ, ◌+◌, ◌<◌}
+use native.Mathlib.Omega.{arith}
+use borrow.Author.Rules.{rules}
+use Rattle.std.specs.declared.option.Option.TheVariants.{Some}
+use Rattle.tell.proofs.Near.{within}
 use Rattle.tell.proofs.peeled_at.Goals as goal
 
-pub returns-then-peeled-eq0 : goal.returns-then-peeled-eq0
-unfolding peeled_at
-returns-then-peeled-eq0 c = rw (eq-eqb _ _ c.if-peeled-eq0.true)
-
-pub returns : goal.returns
-unfolding peeled_at
-returns c = rw (ne_eqb _ _ c.if-peeled-eq0.false)
+pub map_or-requires : goal.map_or-requires
+map_or-requires c =
+    let fits : (x : ℕ) → c.args.peeled ≡ Some x → c.args.place + x < 18446744073709551616 = λ x e. omega (arith, c.requires.0, within x (rw e at c.requires.1)) in
+    λ x e. let f = fits x e in search rules

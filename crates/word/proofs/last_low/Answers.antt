@@ -1,21 +1,23 @@
 -- `word::last_low` meets its contract.
-use Rattle.std.proofs.Common.{sym, ◌∙◌, reverse, arith}
-use borrow.Author.Tests.{leb-true}
+use Rattle.std.proofs.Common.{sym, ap, ◌∙◌, arith, reverse}
 use lib.ListN.{length-reverse}
+use Rattle.std.specs.Int.{w64, from_be_bytes}
 use Rattle.word.specs.Number.{Bytes, eight}
 use Rattle.word.specs.Low.{last_low_at}
-use Rattle.word.proofs.Bytes.{bytes_eight, bytes_reverse, length_eight}
+use Rattle.word.proofs.Bytes.{bytes_eight, bytes_reverse}
+use Rattle.word.proofs.Numbers.{be_number, number_reverse}
+use Rattle.word.proofs.Eights.{none_left, some_left}
 use Rattle.word.proofs.last_low.Goals as goal
 
-pub returns-then-not-eight_from : goal.returns-then-not-eight_from
+pub returns-in_err-eight : goal.returns-in_err-eight
 unfolding last_low_at
-returns-then-not-eight_from c = rw (sym c.if-not-eight_from.ensures)
+returns-in_err-eight c = rw (none_left _ _ (sym c.eight.ensures ∙ c.in_err-eight.was)) c.from_residual.ensures
 
 pub returns : goal.returns
 unfolding last_low_at
 returns c =
     let s = c.args.s.now in
     let at = c.args.at in
-    let left = sym c.if-not-eight_from.ensures in
     let all : Bytes s = λ i. omega (arith, c.type_inv.s i) in
-    rw left (c.low_digit.ensures (reverse (eight s at)) (length-reverse (eight s at) ∙ length_eight s at (leb-true _ _ left)) (bytes_reverse (eight s at) (bytes_eight s at all)) c.big.ensures)
+    let (left, long, same) = some_left s at (sym c.eight.ensures ∙ c.in_ok-eight.was) in
+    rw left (c.low_digit.ensures (reverse (eight s at)) (length-reverse (eight s at) ∙ long) (bytes_reverse (eight s at) (bytes_eight s at all)) (c.from_be_bytes.ensures ∙ ap (from_be_bytes w64) same ∙ be_number (eight s at) long ∙ sym (number_reverse (eight s at))))

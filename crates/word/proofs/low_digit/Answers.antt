@@ -1,5 +1,5 @@
 -- `word::low_digit` meets its contract.
-use Rattle.std.proofs.Common.{ℕ, ◌+◌, ◌-◌, ◌/◌, sym, ap, ◌∙◌, arith, bit_and}
+use Rattle.std.proofs.Common.{ℕ, Some, ◌+◌, ◌-◌, ◌/◌, sym, ap, ◌∙◌, arith, bit_and}
 use lib.Count.{count_trailing_zeros}
 use Rattle.word.proofs.Lows.{highs, lifts, half, told_high, told_low}
 use Rattle.word.proofs.low_digit.Goals as goal
@@ -12,4 +12,5 @@ overflow_add-high c = omega (arith, half c.args.x (omega arith) c.if-x-ne0.false
 
 pub returns : goal.returns
 returns c s long all e =
-    ap (λ (x : ℕ). count_trailing_zeros 64 (highs - bit_and (x + lifts) highs) / 8) e ∙ told_low s long all (ap (λ (x : ℕ). bit_and x highs) (sym e) ∙ c.if-x-ne0.false)
+    ap (λ (x : ℕ). Some (count_trailing_zeros 64 (highs - bit_and (x + lifts) highs) / 8)) e
+    ∙ told_low s long all (ap (λ (x : ℕ). bit_and x highs) (sym e) ∙ c.if-x-ne0.false)

@@ -6,14 +6,16 @@ use native.Mathlib.Omega.{arith}
 use lib.ListN.{length, take, drop}
 use Rattle.class.specs.Class.{paper}
 use Rattle.parse.proofs.Slices.{rest_is}
-use Rattle.edit.specs.declared.EditReading.{EditReading}
-use Rattle.edits.specs.declared.list.Edits.TheVariants.{Count}
 use Rattle.edit.specs.Edit.{edit_of}
 use Rattle.edits.specs.List.{Listed, edits_from, edits_of, counted}
 use Rattle.edit.proofs.Parts.{edit_goes_on}
-use Rattle.edits.proofs.Lists.{from_end, from_many, from_bad, from_good, counted_onto}
+use Rattle.edits.proofs.Lists.{from_end, from_many, from_bad, from_good, counted_onto, read_well, read_badly}
 use borrow.Author.Rules.{rules}
+use Rattle.std.proofs.lemmas.Result.{err_from_is_err_and}
 use Rattle.edits.proofs.list.count.Goals as goal
+use Rattle.std.specs.declared.result.Result.{Result}
+use Rattle.std.specs.declared.result.Result.TheVariants.{Ok, Err}
+use Rattle.edit.specs.declared.EditFault.{EditFault}
 
 -- what the list is from a place on decides the whole
 decides : (n : ℕ) (list : List ℕ) (count place : ℕ) {x : Listed}
@@ -29,7 +31,7 @@ fewer n list count place h =
     ap (λ k. edits_from paper n list k place) z
 
 -- what is read from a place on is the edit that stands there
-is_read : (n : ℕ) (list : List ℕ) (place : ℕ) {r : EditReading} → r ≡ edit_of paper n (take (length list - place) (drop place list))
+is_read : (n : ℕ) (list : List ℕ) (place : ℕ) {r : (Result ℕ EditFault)} → r ≡ edit_of paper n (take (length list - place) (drop place list))
     → edit_of paper n (drop place list) ≡ r
 is_read n list place e = ap (edit_of paper n) (sym (rest_is list place)) ∙ sym e
 
@@ -43,15 +45,16 @@ returns-then-count-ge4096 c =
     decides c.args.n c.args.list.now c.loop-place.count c.loop-place.place c.loop-place.invariant.1
     (ap (λ k. edits_from paper c.args.n c.args.list.now k c.loop-place.place) z ∙ from_many paper c.args.n c.args.list.now c.loop-place.place (search rules))
 
+-- what `map_err` leaves of an edit that was read
+is_edit : (c : goal.In_ok-size) → edit_of paper c.args.n (drop c.loop-place.place c.args.list.now) ≡ Ok c.in_ok-size.size
+is_edit c =
+    is_read c.args.n c.args.list.now c.loop-place.place c.read.ensures ∙ read_well c.read.result c.map_err.result _ c.map_err.ensures.cases c.in_ok-size.was
+
 pub overflow_add-place : goal.overflow_add-place
-overflow_add-place c =
-    let is_edit = is_read c.args.n c.args.list.now c.loop-place.place c.read.ensures ∙ c.in-Good.is in
-    omega (arith, edit_goes_on paper c.args.n c.args.list.now c.loop-place.place c.in-Good.size is_edit, c.well_formed)
+overflow_add-place c = omega (arith, edit_goes_on paper c.args.n c.args.list.now c.loop-place.place c.in_ok-size.size (is_edit c), c.well_formed)
 
 pub loop-place-smaller : goal.loop-place-smaller
-loop-place-smaller c =
-    let is_edit = is_read c.args.n c.args.list.now c.loop-place.place c.read.ensures ∙ c.in-Good.is in
-    omega (arith, edit_goes_on paper c.args.n c.args.list.now c.loop-place.place c.in-Good.size is_edit)
+loop-place-smaller c = omega (arith, edit_goes_on paper c.args.n c.args.list.now c.loop-place.place c.in_ok-size.size (is_edit c))
 
 pub loop-place-preserved : goal.loop-place-preserved
 loop-place-preserved c =
@@ -59,26 +62,27 @@ loop-place-preserved c =
     let list = c.args.list.now in
     let place = c.loop-place.place in
     let count = c.loop-place.count in
-    let size = c.in-Good.size in
+    let size = c.in_ok-size.size in
     let turns = 4096 - (count + 1) in
-    let is_edit = is_read n list place c.read.ensures ∙ c.in-Good.is in
     let on = counted_onto count place (edits_from paper n list turns (place + size)) in
-    let here = fewer n list count place (omega arith) ∙ from_good paper n list place c.loop-place-test.true turns size is_edit in
+    let here = fewer n list count place (omega arith) ∙ from_good paper n list place c.loop-place-test.true turns size (is_edit c) in
     (omega arith, sym on ∙ decides n list count place c.loop-place.invariant.1 here)
 
-pub returns-in-Bad : goal.returns-in-Bad
-returns-in-Bad c =
+pub returns-in_err-size : goal.returns-in_err-size
+returns-in_err-size c =
     let n = c.args.n in
     let list = c.args.list.now in
     let place = c.loop-place.place in
     let count = c.loop-place.count in
-    let is_edit = is_read n list place c.read.ensures ∙ c.in-Bad.is in
+    let (fault, bad, why) = read_badly c.read.result c.map_err.result place _ (λ f w q. search rules) c.map_err.ensures.cases c.in_err-size.was in
+    let is_edit = is_read n list place c.read.ensures ∙ bad in
     let here = fewer n list count place (omega arith) ∙ from_bad paper n list place c.loop-place-test.true (4096 - (count + 1)) is_edit in
-    decides n list count place c.loop-place.invariant.1 here
+    let (handed, is, q) = err_from_is_err_and c.from_residual.result c.from_residual.ensures.1 in
+    is ∙ ap Err (q ∙ why) ∙ decides n list count place c.loop-place.invariant.1 here
 
 pub returns : goal.returns
 returns c =
     let z : c.loop-place.count ≡ c.loop-place.count + 0 = omega arith in
-    ap Count z
+    ap Ok z
     ∙ decides c.args.n c.args.list.now c.loop-place.count c.loop-place.place c.loop-place.invariant.1
     (from_end paper c.args.n c.args.list.now c.loop-place.place (4096 - c.loop-place.count) c.loop-place-test.false)

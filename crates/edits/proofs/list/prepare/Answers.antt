@@ -9,6 +9,8 @@ use Rattle.parse.specs.Limit.{over_limit}
 use Rattle.edits.specs.List.{edits_of, places_of, in_order, twins_of}
 use Rattle.edits.proofs.Ordering.{front, behind}
 use Rattle.edits.proofs.Outcomes.{counted_count, comes_large, comes_bad, comes_short, comes_ready}
+use Rattle.std.proofs.lemmas.Result.{err_from_is_err_and}
+use Rattle.std.specs.declared.result.Result.TheVariants.{Err}
 use Rattle.edits.proofs.list.prepare.Goals as goal
 
 pub returns-then-over_limit : goal.returns-then-over_limit
@@ -19,32 +21,33 @@ returns-then-over_limit c =
 pub returns-then-index-k : goal.returns-then-index-k
 returns-then-index-k c =
     let within = sym c.over_limit.ensures ∙ c.if-over_limit.false in
-    let number_is = sym c.count.ensures ∙ c.in-Count.is in
-    let t = comes_short paper c.args.n c.args.list.now c.args.index.now within c.in-Count.k number_is c.if-index-k.true in
+    let number_is = sym c.count.ensures ∙ c.in_ok-k.was in
+    let t = comes_short paper c.args.n c.args.list.now c.args.index.now within c.in_ok-k.k number_is c.if-index-k.true in
     record { value = t.0; index_after = t.1 }
 
 pub fill-requires : goal.fill-requires
 unfolding over_limit
 fill-requires c =
     let within = sym c.over_limit.ensures ∙ c.if-over_limit.false in
-    let number_is = sym c.count.ensures ∙ c.in-Count.is in
-    let whole = counted_count (edits_of paper c.args.n c.args.list.now) c.in-Count.k number_is in
+    let number_is = sym c.count.ensures ∙ c.in_ok-k.was in
+    let whole = counted_count (edits_of paper c.args.n c.args.list.now) c.in_ok-k.k number_is in
     (omega (arith, ltb-false 1073741824 (length c.args.list.now) within), whole.2, omega (arith, whole.1))
 
-pub returns-in-Bad : goal.returns-in-Bad
-returns-in-Bad c =
+pub returns-in_err-k : goal.returns-in_err-k
+returns-in_err-k c =
     let within = sym c.over_limit.ensures ∙ c.if-over_limit.false in
-    let t = comes_bad paper c.args.n c.args.list.now c.args.index.now within c.in-Bad.why (sym c.count.ensures ∙ c.in-Bad.is) in
-    record { value = t.0; index_after = t.1 }
+    let (why, is, q) = err_from_is_err_and c.from_residual.result c.from_residual.ensures.1 in
+    let t = comes_bad paper c.args.n c.args.list.now c.args.index.now within c.in_err-k.field-0.0 (sym c.count.ensures ∙ c.in_err-k.was) in
+    record { value = is ∙ ap Err q ∙ t.0; index_after = t.1 }
 
-pub returns-else-index-k : goal.returns-else-index-k
-returns-else-index-k c =
+pub returns : goal.returns
+returns c =
     let within = sym c.over_limit.ensures ∙ c.if-over_limit.false in
-    let k = c.in-Count.k in
+    let k = c.in_ok-k.k in
     let list = c.args.list.now in
     let index = c.args.index.now in
     let filled = c.fill.new.index in
-    let number_is = sym c.count.ensures ∙ c.in-Count.is in
+    let number_is = sym c.count.ensures ∙ c.in_ok-k.was in
     let places = places_of (edits_of paper c.args.n list) in
     let places_are = (counted_count (edits_of paper c.args.n list) k number_is).1 in
     let in_front = front places index filled k c.fill.ensures places_are c.if-index-k.false in

@@ -3,10 +3,10 @@ use mathlib.Core.Path.{sym, ◌∙◌}
 use Rattle.edits.specs.List.{twins_of}
 use Rattle.edits.proofs.list.twins.Goals as goal
 
-pub returns-in-At : goal.returns-in-At
+pub returns-in-Some : goal.returns-in-Some
 unfolding twins_of
-returns-in-At c = rw (sym c.first_twin.ensures ∙ c.in-At.is)
+returns-in-Some c = rw (sym c.first_twin.ensures ∙ c.in-Some.is)
 
-pub returns-in-Nothing : goal.returns-in-Nothing
+pub returns-in-None : goal.returns-in-None
 unfolding twins_of
-returns-in-Nothing c = rw (sym c.first_twin.ensures ∙ c.in-Nothing.is)
+returns-in-None c = rw (sym c.first_twin.ensures ∙ c.in-None.is)

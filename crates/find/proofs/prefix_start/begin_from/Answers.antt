@@ -12,18 +12,13 @@ use Rattle.find.proofs.prefix_start.begin_from.Goals as goal
 pub overflow_add-result : goal.overflow_add-result
 overflow_add-result c =
     let a = c.args in
-    let byte = paper in
-    let here = ap (start_of byte) (sym (c.between.ensures ∙ rest_is a.body.now a.place)) ∙ sym c.begin_without_kind.ensures ∙ c.in-At.is in
-    omega (arith, start_inside byte (drop a.place a.body.now) here, length-drop a.place a.body.now, c.well_formed, c.requires)
+    let here = ap (start_of paper) (sym (c.between.ensures ∙ rest_is a.body.now a.place)) ∙ sym c.begin_without_kind.ensures ∙ c.in-Ok.is in
+    omega (arith, start_inside paper (drop a.place a.body.now) here, length-drop a.place a.body.now, c.well_formed, c.requires)
 
-pub returns-in-At : goal.returns-in-At
+pub returns-in-Ok : goal.returns-in-Ok
 unfolding prefix_start_from
-returns-in-At c =
-    let a = c.args in
-    rw (ap (start_of paper) (sym (c.between.ensures ∙ rest_is a.body.now a.place)) ∙ sym c.begin_without_kind.ensures ∙ c.in-At.is)
+returns-in-Ok c = rw (← rest_is c.args.body.now c.args.place, ← c.between.ensures, ← c.begin_without_kind.ensures, c.in-Ok.is)
 
-pub returns-in-BadHeader : goal.returns-in-BadHeader
+pub returns-in-Err : goal.returns-in-Err
 unfolding prefix_start_from
-returns-in-BadHeader c =
-    let a = c.args in
-    rw (ap (start_of paper) (sym (c.between.ensures ∙ rest_is a.body.now a.place)) ∙ sym c.begin_without_kind.ensures ∙ c.in-BadHeader.is)
+returns-in-Err c = rw (← rest_is c.args.body.now c.args.place, ← c.between.ensures, ← c.begin_without_kind.ensures, c.in-Err.is)

@@ -8,24 +8,22 @@ use Rattle.put.specs.Cr.{without_cr}
 use Rattle.put.proofs.Laws.{puts_then}
 use Rattle.merge.specs.Splice.{spliced_file}
 use Rattle.merge.proofs.Splice.{puts_as, old_bytes, spliced_from, spliced_end, put_turn}
+use borrow.Author.Rules.{rules}
 use Rattle.merge.proofs.write.write.Goals as goal
-
-pub overflow_add-j-in-loop-j : goal.overflow_add-j-in-loop-j
-overflow_add-j-in-loop-j c = omega (arith, c.loop-j-test.true, c.well_formed)
 
 pub loop-j-preserved : goal.loop-j-preserved
 loop-j-preserved c =
     let a = c.args in
     let l = c.loop-j in
     let before = l.invariant in
-    let inside : l.j < length a.index.now = c.loop-j-test.true in
+    let inside : l.j < length a.index.now = search rules in
     let room : length l.out ≤ 18446744073709551615 = omega (arith, before.0, c.bytes-at.auto.out, c.well_formed) in
-    let old = ap without_cr c.between.ensures ∙ ap (old_bytes a.file.now l.from) c.mark_at.ensures in
+    let old = ap without_cr c.between.ensures ∙ ap (λ r. old_bytes a.file.now l.from r.start) c.mark_at-run.ensures in
     let t =
     put_turn a.n a.file.now a.list.now a.index.now a.marks.now l.from l.j inside l.out _ _ l.at _ _ room (puts_as l.out l.at old c.lf-at.ensures)
     (c.put_new-at.ensures.out_after, c.put_new-at.ensures.value)
     in
-    rw c.mark_at-from.ensures (c.put_new-at.auto.out ∙ c.lf-at.auto.out ∙ before.0, t.0 ∙ before.1, t.1 ∙ before.2)
+    rw c.mark_at-run.ensures (c.put_new-at.auto.out ∙ c.lf-at.auto.out ∙ before.0, t.0 ∙ before.1, t.1 ∙ before.2)
 
 pub returns : goal.returns
 unfolding spliced_file
@@ -36,7 +34,7 @@ returns c =
     let whole = spliced_from a.n a.file.now a.list.now a.index.now a.marks.now a.body 0 in
     let left =
     ap without_cr (c.between-2.ensures ∙ rest_is a.file.now l.from)
-    ∙ sym (spliced_end a.n a.file.now a.list.now a.index.now a.marks.now l.from l.j c.loop-j-test.false)
+    ∙ sym (spliced_end a.n a.file.now a.list.now a.index.now a.marks.now l.from l.j (search rules))
     in
     let last = puts_as l.out l.at left c.lf.ensures in
     let all =

@@ -5,8 +5,8 @@ use lib.ListN.{length}
 use Rattle.places.proofs.Texts.{order_from}
 use Rattle.places.proofs.text.by_letter.Given as goal
 
-abbrev pub invariant-loop-at : goal.invariant-loop-at
-invariant-loop-at l = order_from l.x l.y l.i ≡ order_from l.x l.y l.at
+abbrev pub invariant-loop-order : goal.invariant-loop-order
+invariant-loop-order l = order_from l.x l.y l.i ≡ order_from l.x l.y l.at
 
-abbrev pub decreases-loop-at : goal.decreases-loop-at
-decreases-loop-at l = length l.x - l.i
+abbrev pub decreases-loop-order : goal.decreases-loop-order
+decreases-loop-order l = length l.x - l.i

@@ -1,28 +1,28 @@
 -- `places::text::letter_at` meets its contract.
-use mathlib.Core.Path.{sym, ap, ◌∙◌}
+use mathlib.Core.Path.{◌≡◌, sym, ap, ◌∙◌}
+use Prim.Native.Nat.{suc, ◌≤◌}
 use native.Mathlib.Omega.{arith}
 use native.Mathlib.Numerals.{add-one}
+use mathlib.Core.Bool.{true, false}
+use lib.ListN.{get_or, length}
+use Rattle.class.specs.Class.{is_line_end}
 use Rattle.places.specs.Letter.{letter}
 use Rattle.places.proofs.Texts.{text_beyond, text_ended, text_goes}
 use Rattle.places.proofs.text.letter_at.Goals as goal
 
-pub returns-then-x-i : goal.returns-then-x-i
-returns-then-x-i c =
-    let a = c.args in
-    sym (ap letter (text_beyond a.x.now a.i c.if-x-i.true))
+pub returns-in_default : goal.returns-in_default
+returns-in_default c =
+    let end : length c.args.x.now ≤ c.args.i = grind arith in
+    sym (ap letter (text_beyond c.args.x.now c.args.i end))
 
-pub returns-then-is_line_end : goal.returns-then-is_line_end
-returns-then-is_line_end c =
-    let a = c.args in
-    sym (ap letter (text_ended a.x.now a.i (omega arith) (sym c.is_line_end.ensures ∙ c.if-is_line_end.true)))
-
-pub overflow_cast-result : goal.overflow_cast-result
-overflow_cast-result c = omega (arith, c.type_inv.x c.args.i)
-
-pub overflow_add-result : goal.overflow_add-result
-overflow_add-result c = omega (arith, c.type_inv.x c.args.i)
+pub returns-then-is_cr_or_lf : goal.returns-then-is_cr_or_lf
+returns-then-is_cr_or_lf c =
+    let (inside, there) = c.in-Some.ensures.lookup.3 in
+    let ended : is_line_end (get_or c.args.x.now c.args.i 0) ≡ true = cc (there 0) in
+    sym (ap letter (text_ended c.args.x.now c.args.i inside ended))
 
 pub returns : goal.returns
 returns c =
-    let a = c.args in
-    add-one _ ∙ sym (ap letter (text_goes a.x.now a.i (omega arith) (sym c.is_line_end.ensures ∙ c.if-is_line_end.false)))
+    let (inside, there) = c.in-Some.ensures.lookup.3 in
+    let on : is_line_end (get_or c.args.x.now c.args.i 0) ≡ false = cc (there 0) in
+    add-one _ ∙ ap suc (c.from.ensures ∙ there 0) ∙ sym (ap letter (text_goes c.args.x.now c.args.i inside on))

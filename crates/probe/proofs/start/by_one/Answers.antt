@@ -1,17 +1,17 @@
--- `probe::start::by_one` meets its contract: the line that i lies in begins where the place's line does.
-use mathlib.Core.Path.{sym, ◌∙◌}
-use Rattle.probe.proofs.Starts.{line_first, line_stop, line_back}
-use borrow.Author.Rules.{rules}
+-- `probe::start::by_one` meets its contract.
+use Rattle.std.proofs.Common.{rules, tests}
+use Rattle.std.proofs.lemmas.Iterator.Adapters.{YieldsList-from_rev_slice}
+use Rattle.std.proofs.lemmas.Iterator.Search.{position_from_yields_List}
+use lib.Dec.{eqb}
+use Rattle.probe.proofs.Starts.{feed_last, feed_none}
 use Rattle.probe.proofs.start.by_one.Goals as goal
 
-pub returns-then-s-i-eq10 : goal.returns-then-s-i-eq10
-returns-then-s-i-eq10 c =
-    sym (line_stop c.args.s.now c.loop-i.i (search rules) c.if-s-i-eq10.true) ∙ c.loop-i.invariant.1
+pub returns-in-Some : goal.returns-in-Some
+returns-in-Some c =
+    let s = c.args.s.now in
+    feed_last s (position_from_yields_List (λ b. eqb b 10) _ _ _ c.position.ensures.ran (YieldsList-from_rev_slice s cc) (λ x r q k. search (rules, tests))) c.in-Some.is
 
-pub loop-i-preserved : goal.loop-i-preserved
-loop-i-preserved c =
-    (search rules, sym (line_back c.args.s.now c.loop-i.i (search rules) c.if-s-i-eq10.false) ∙ c.loop-i.invariant.1)
-
-pub returns : goal.returns
-returns c =
-    sym (line_first c.args.s.now c.loop-i.i (search rules)) ∙ c.loop-i.invariant.1
+pub returns-in-None : goal.returns-in-None
+returns-in-None c =
+    let s = c.args.s.now in
+    feed_none s (position_from_yields_List (λ b. eqb b 10) _ _ _ c.position.ensures.ran (YieldsList-from_rev_slice s cc) (λ x r q k. search (rules, tests))) c.in-None.is

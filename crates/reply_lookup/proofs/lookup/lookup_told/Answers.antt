@@ -1,18 +1,15 @@
 -- `reply_lookup::lookup::lookup_told` meets its contract: a record in the answer is near, so its parts are those that are told.
 use mathlib.Core.Path.{◌≡◌, ap, ◌∙◌}
-use Prim.Native.Nat.{ℕ}
-use Rattle.decode.specs.declared.reference.Record.{Record}
+use borrow.Author.Rules.{rules}
 use Rattle.find.specs.declared.lookup.Lookup.TheVariants.{Charted}
-use Rattle.find.specs.declared.lookup.LookupAnswer.{LookupAnswer}
-use Rattle.find.specs.declared.lookup.LookupAnswer.TheVariants.{Done}
-use Rattle.tell.specs.declared.Parts.{Parts}
-use Rattle.tell.specs.Told.{parts_told}
+use Rattle.std.specs.declared.result.Result.TheVariants.{Ok}
+use Rattle.tell.specs.Told.{parts_of}
 use Rattle.tell.proofs.Near.{told_near}
-use Rattle.reply_lookup.specs.Lookup.{LookupNear, lookup_gives, lookup_reply}
 use Rattle.reply_lookup.proofs.lookup.lookup_told.Goals as goal
 
-hit : (kind : ℕ) (a : LookupAnswer) {place : ℕ} {r : Record} (parts : Parts) → LookupNear a → a ≡ Done (Charted place r) → parts ≡ parts_told kind place r → lookup_gives 0 place parts ≡ lookup_reply kind a
-hit kind a {place} {r} parts near e p = rw (e, p ∙ told_near kind place r (near place r e))
-
-pub returns-in-Charted : goal.returns-in-Charted
-returns-in-Charted c = c.lookup_gives.ensures ∙ hit c.args.kind c.args.answer _ c.requires (c.in-Done.is ∙ ap Done c.in-Charted.is) c.parts_at.ensures
+pub returns-in-Ok-Charted : goal.returns-in-Ok-Charted
+returns-in-Ok-Charted c =
+    let a = c.args in let place = c.in-Ok-Charted.place in let r = c.in-Ok-Charted.found in
+    let hit : a.answer ≡ Ok (Charted place r) = c.in-Ok-Charted.is ∙ ap Ok (rw c.in-Ok-Charted.is at c.in-Ok-Charted.field-0-is) in
+    let told : c.parts_at-parts.result ≡ parts_of a.kind place r = c.parts_at-parts.ensures ∙ told_near a.kind place r (c.requires place r hit) in
+    rw (hit, told) (search rules)

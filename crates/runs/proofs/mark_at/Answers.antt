@@ -1,7 +1,0 @@
--- `runs::mark_at` meets its contract.
-use mathlib.Core.Path.{sym}
-use lib.ListN.{get_or-eq_default}
-use Rattle.runs.proofs.mark_at.Goals as goal
-
-pub returns : goal.returns
-returns c = sym (get_or-eq_default c.args.marks.now 0 c.if-at-marks.false)
