@@ -1,20 +1,51 @@
--- The order of two lists by their first bytes, and the laws of the order.
+-- The order of two lists from a place on, by what stands there; and the laws of the order.
 use mathlib.Core.Path.{◌≡◌, refl, sym, ap, ◌∙◌}
 use mathlib.Core.Bool.{Bool, true, false, true≢false}
 use mathlib.Core.Logic.{◌⊎◌, inl, inr}
 use mathlib.Core.List.{List, [], ◌∷◌}
-use Prim.Native.Nat.{ℕ, ◌<◌}
+use Prim.Native.Nat.{ℕ, zero, suc, ◌+◌, ◌≤◌, ◌<◌}
+use native.Mathlib.Nat.{add-zero, add-suc}
+use native.Mathlib.Numerals.{add-one}
 use native.Mathlib.Omega.{arith}
 use lib.Dec.{ltb}
-use borrow.Author.Tests.{ltb-true, ltb-false, lt-ltb, le-ltb, eq-eqb, ne_eqb}
-use Rattle.std.specs.Cmp.Lexicographic.{slice_cmp}
-use Rattle.std.specs.Ordering.{nat_cmp}
+use borrow.Author.Tests.{ltb-true, ltb-false, lt-ltb, le-ltb}
+use lib.ListN.{length, get_or, drop, drop_of_length-le}
+use lib.Seq.{drop-cons}
 pub use Rattle.std.specs.Ordering.{is_eq as is_equal, ordering_reverse as turned}
 use Rattle.compare.specs.Order.{order_of}
 use Rattle.compare.specs.Prefix.{same}
 use Rattle.compare.proofs.Prefixes.{same_is, same_self}
 use Rattle.std.specs.declared.cmp.Ordering.{Ordering}
 use Rattle.std.specs.declared.cmp.Ordering.TheVariants.{Equal, Greater, Less}
+
+module _ (a b : List ℕ) where
+  module _ (i : ℕ) where
+    pub both_end : length a ≤ i → length b ≤ i → order_of (drop i a) (drop i b) ≡ Equal
+    both_end h k = rw (drop_of_length-le a h, drop_of_length-le b k)
+
+    pub first_ends : length a ≤ i → i < length b → order_of (drop i a) (drop i b) ≡ Less
+    first_ends h k = rw (drop_of_length-le a h, drop-cons b i 0 k)
+
+    pub second_ends : i < length a → length b ≤ i → order_of (drop i a) (drop i b) ≡ Greater
+    second_ends h k = rw (drop-cons a i 0 h, drop_of_length-le b k)
+
+    module _ (h : i < length a) (k : i < length b) where
+      pub smaller : get_or a i 0 < get_or b i 0 → order_of (drop i a) (drop i b) ≡ Less
+      smaller l = rw (drop-cons a i 0 h, drop-cons b i 0 k, lt-ltb _ _ l)
+
+      pub greater : get_or b i 0 < get_or a i 0 → order_of (drop i a) (drop i b) ≡ Greater
+      greater l = rw (drop-cons a i 0 h, drop-cons b i 0 k, le-ltb (get_or a i 0) (get_or b i 0) (omega arith), lt-ltb (get_or b i 0) (get_or a i 0) l)
+
+      pub alike : get_or a i 0 ≡ get_or b i 0 → order_of (drop i a) (drop i b) ≡ order_of (drop (i + 1) a) (drop (i + 1) b)
+      alike e = rw (drop-cons a i 0 h, drop-cons b i 0 k, le-ltb (get_or a i 0) (get_or b i 0) (omega arith), le-ltb (get_or b i 0) (get_or a i 0) (omega arith), add-one)
+
+  pub skip : (i n : ℕ) → i + n ≤ length a → i + n ≤ length b → ((k : ℕ) → k < n → get_or a (i + k) 0 ≡ get_or b (i + k) 0)
+      → order_of (drop i a) (drop i b) ≡ order_of (drop (i + n) a) (drop (i + n) b)
+  skip i zero g h all = rw add-zero
+  skip i (suc n) g h all =
+      skip i n (omega arith) (omega arith) (λ k l. all k (omega arith))
+      ∙ alike (i + n) (omega arith) (omega arith) (all n (omega arith))
+      ∙ rw (add-suc i n, add-one (i + n))
 
 -- ---- the order of two strings with a first byte
 
@@ -43,18 +74,6 @@ module _ (x : ℕ) (a : List ℕ) (y : ℕ) (b : List ℕ) where
       go (below l e) = inl l
       go (above l e) = absurd (let z : ◌≡◌ {A = ℕ} 0 1 = cc in omega arith)
       go (level l e) = inr (l, sym e ∙ h)
-
--- the library's `cmp` says the same
-pub order_by_library : (a b : List ℕ) → slice_cmp nat_cmp a b ≡ order_of a b
-order_by_library [] [] = refl
-order_by_library [] (y ∷ b) = refl
-order_by_library (x ∷ a) [] = refl
-order_by_library (x ∷ a) (y ∷ b) = go (firsts x a y b) (order_by_library a b)
-  where
-    go : Firsts x a y b → slice_cmp nat_cmp a b ≡ order_of a b → slice_cmp nat_cmp (x ∷ a) (y ∷ b) ≡ order_of (x ∷ a) (y ∷ b)
-    go (below l e) ih = rw (e, lt-ltb x y l)
-    go (above l e) ih = rw (e, le-ltb x y (omega arith), ne_eqb x y (λ k. omega arith))
-    go (level l e) ih = rw (e, le-ltb x y (omega arith), eq-eqb x y l) ih
 
 -- ---- the laws of the order: it is total, and equal only to itself
 
