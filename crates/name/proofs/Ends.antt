@@ -1,18 +1,18 @@
--- Where a word that ends a string stands: its own length before the end. Assumes nothing.
-use mathlib.Core.Path.{◌≡◌, refl, sym, ap, ◌∙◌}
-use mathlib.Core.Bool.{Bool, true, false, and-false, or-false}
+-- Where a word that ends a string stands: its own length before the end. And so `.lock`, by places. Assumes nothing.
+use mathlib.Core.Path.{◌≡◌, refl, ap, ◌∙◌}
+use mathlib.Core.Bool.{Bool, true, false, ◌&&◌, and-true, and-false, or-false, and_assoc}
 use mathlib.Core.List.{List, [], ◌∷◌}
-use Prim.Native.Nat.{ℕ, zero, suc, ◌+◌, ◌-◌, ◌<◌}
+use Prim.Native.Nat.{ℕ, zero, suc, ◌+◌, ◌≤◌, ◌<◌}
+use native.Mathlib.Nat.{add-zero}
+use native.Mathlib.Numerals.{towards_suc}
 use native.Mathlib.Omega.{arith}
-use borrow.Author.Tests.{leb-true, leb-false}
-use lib.Dec.{leb}
-use lib.ListN.{length, drop}
-use Rattle.std.specs.Prelude.{nat_eq}
-use Rattle.std.specs.Cmp.Lexicographic.{pointwise}
-use Rattle.std.proofs.lemmas.Cmp.{nat_list_eq_equiv}
+use borrow.Author.Tests.{leb-true}
+use lib.Dec.{eqb, leb}
+use lib.ListN.{length, get_or, take, drop}
+use lib.Seq.{length-take-le, slice-cons, slice_empty}
 use Rattle.compare.specs.Prefix.{same}
-use Rattle.compare.proofs.Prefixes.{same_by_library}
 use Rattle.name.specs.Words.{ends}
+use Rattle.name.specs.Name.{dot_lock}
 
 -- only strings of one length are the same
 same_length : (w s : List ℕ) → (length w ≡ length s → ⊥) → same w s ≡ false
@@ -32,13 +32,36 @@ ends_place w [] (suc k) h = absurd (omega arith)
 ends_place w (b ∷ s) zero h = rw (ends_short w s (omega arith), or-false)
 ends_place w (b ∷ s) (suc k) h = rw (same_length w (b ∷ s) (omega arith)) (ends_place w s k (omega arith))
 
--- the library's `ends_with` says the same
-pub ends_by_library : (w s : List ℕ) → pointwise nat_eq w (drop (length s - length w) s) ≡ ends w s
-ends_by_library w s = nat_list_eq_equiv.symm w (drop (length s - length w) s) ∙ same_by_library w (drop (length s - length w) s) ∙ sym (go (leb (length w) (length s)) refl)
+-- w stands in s from the place k on, byte by byte
+abbrev stands : List ℕ → List ℕ → ℕ → Bool
+stands [] s k = true
+stands (a ∷ w) s k = eqb (get_or s k 0) a && stands w s (suc k)
+
+-- before a place of a string
+module _ (s : List ℕ) (at : ℕ) (fits : at ≤ length s) where
+  same_stands : (w : List ℕ) (k : ℕ) → k + length w ≡ at → same w (drop k (take at s)) ≡ stands w s k
+  same_stands [] k h = rw (← h, add-zero k, slice_empty k s)
+  same_stands (a ∷ w) k h = rw (slice-cons k at s 0 (omega arith) fits, same_stands w (suc k) (omega arith))
+
+  ends_stands : (w : List ℕ) (k : ℕ) → k + length w ≡ at → ends w (take at s) ≡ stands w s k
+  ends_stands w k h = ends_place w (take at s) k (rw (length-take-le at s fits) h) ∙ same_stands w k h
+
+  pub lock_short : at < 5 → ends dot_lock (take at s) ≡ false
+  lock_short h = ends_short dot_lock (take at s) (rw (length-take-le at s fits) h)
+
+  pub lock_stands : (k : ℕ) → k + 5 ≡ at
+      → ends dot_lock (take at s)
+      ≡ eqb (get_or s k 0) 46
+      && eqb (get_or s (k + 1) 0) 108
+      && eqb (get_or s (k + 2) 0) 111
+      && eqb (get_or s (k + 3) 0) 99
+      && eqb (get_or s (k + 4) 0) 107
+  lock_stands k h = rw (ends_stands dot_lock k h) (simp (towards_suc, and-true, and_assoc))
+
+-- beyond the end, or right behind fewer than five bytes, it stands nowhere
+pub lock_nowhere : (s : List ℕ) (at : ℕ) → (at ≤ length s → at < 5) → (leb at (length s) && ends dot_lock (take at s)) ≡ false
+lock_nowhere s at h = go (leb at (length s)) refl
   where
-    go : (t : Bool) → leb (length w) (length s) ≡ t → ends w s ≡ same w (drop (length s - length w) s)
-    go true e = let fits = leb-true (length w) (length s) e in ends_place w s (length s - length w) (omega arith)
-    go false e =
-        let short = leb-false (length w) (length s) e in
-        let none : length s - length w ≡ 0 = omega arith in
-        rw (ends_short w s short, none, same_length w s (omega arith))
+    go : (t : Bool) → leb at (length s) ≡ t → (t && ends dot_lock (take at s)) ≡ false
+    go true e = let fits = leb-true at (length s) e in lock_short s at fits (h fits)
+    go false e = refl

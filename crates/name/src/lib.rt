@@ -90,11 +90,20 @@ fn is_dot_or_slash(b: u8) -> bool
     (b'.' <= b) & (b <= b'/')
 }
 
-// Whether a slash stands in a name. Most names begin with `refs/`.
+// Whether a slash stands in a name. Most names begin with `refs/`. In blocks of sixteen, each byte once (docs/COST.md counts): the library's `contains`
+// looks at some up to three times.
 fn has_slash(s: &[u8]) -> bool
     ensures { result ≡ true → contains slash s.now ≡ true }
 {
-    (4 < s.len() && s[4] == b'/') || s.contains(&b'/')
+    if 4 < s.len() && s[4] == b'/' {
+        return true;
+    }
+    for i in 0..s.len() / 16 {
+        if block::among16(s, 16 * i, b'/') {
+            return true;
+        }
+    }
+    block::among16(s, s.len() / 16 * 16, b'/')
 }
 
 // The same byte by byte, by a table of byte classes.
@@ -147,5 +156,14 @@ fn may_follow(t: &[u8; 256], before: u8, b: u8) -> bool
 fn lock_before(s: &[u8], at: usize) -> bool
     ensures { result ≡ (leb at (length s.now) && ends dot_lock (take at s.now)) }
 {
-    at <= s.len() && s[..at].ends_with(b".lock")
+    if s.len() < at || at < 5 {
+        return false;
+    }
+    // The last letter first: most components end otherwise, and then no other is read (docs/COST.md counts). The library's `ends_with` would look at all five.
+    let start = at - 5;
+    s[start + 4] == b'k'
+        && ((s[start] == b'.')
+            & (s[start + 1] == b'l')
+            & (s[start + 2] == b'o')
+            & (s[start + 3] == b'c'))
 }
