@@ -9,8 +9,8 @@ pub fn next_byte(s: &[u8], at: usize, b: u8) -> usize
     let Some(mut rest) = s.get(at..) else {
         return at;
     };
-    while let Some((sixteen, behind)) = rest.split_first_chunk::<16>() {
-        if block::among(sixteen, b) {
+    while let Some((_, behind)) = rest.split_first_chunk::<16>() {
+        if block::among16(rest, 0, b) {
             break;
         }
         rest = behind;

@@ -5,9 +5,9 @@ use Rattle.parse.proofs.Runs.{span_le}
 use Rattle.parse.proofs.scan.next_byte.Goals as goal
 
 pub overflow_add-result-2 : goal.overflow_add-result-2
-overflow_add-result-2 c = omega (arith, c.by_one.ensures, span_le (λ x. not (eqb x c.args.b)) c.loop-sixteen.rest.now, c.loop-sixteen.invariant.inside)
+overflow_add-result-2 c = omega (arith, c.by_one.ensures, span_le (λ x. not (eqb x c.args.b)) c.loop-behind.rest.now, c.loop-behind.invariant.inside)
 
 pub returns-then-b-lt14 : goal.returns-then-b-lt14
 returns-then-b-lt14 c =
     let first = c.until_low.ensures.first (λ x. eqb x c.args.b) (λ x t h q. search (rules, tests)) (λ x h. ne_eqb x c.args.b (λ e. omega arith)) in
-    omega (arith, c.loop-sixteen.invariant)
+    omega (arith, c.loop-behind.invariant)

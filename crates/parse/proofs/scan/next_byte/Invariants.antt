@@ -3,8 +3,8 @@ use Rattle.std.proofs.Common.{◌≡◌, ◌+◌, ◌-◌, ◌≤◌, length, dr
 use Rattle.parse.specs.Run.{before}
 use Rattle.parse.proofs.scan.next_byte.Given as goal
 
-abbrev pub invariant-loop-sixteen : goal.invariant-loop-sixteen
-invariant-loop-sixteen l = record { inside : l.at + length l.rest ≤ length l.s; same : length l.s - length l.rest + before l.b l.rest ≡ l.at + before l.b (drop l.at l.s) }
+abbrev pub invariant-loop-behind : goal.invariant-loop-behind
+invariant-loop-behind l = record { inside : l.at + length l.rest ≤ length l.s; same : length l.s - length l.rest + before l.b l.rest ≡ l.at + before l.b (drop l.at l.s) }
 
-abbrev pub decreases-loop-sixteen : goal.decreases-loop-sixteen
-decreases-loop-sixteen l = length l.rest
+abbrev pub decreases-loop-behind : goal.decreases-loop-behind
+decreases-loop-behind l = length l.rest
