@@ -8,7 +8,7 @@
 #![tactic(auto)]
 
 ghost use Rattle.std.specs.Prelude.{◌≡◌, ◌+◌, ℕ, Bool, not, take, drop};
-ghost use Rattle.class.specs.Class.{paper};
+ghost use Rattle.class.specs.Class.{paper, classes_of};
 ghost use Rattle.parse.specs.Run.{span};
 ghost use Rattle.loose.specs.Loose.{ends_path, symbolic_of, full_id, loose_of, loose_answer};
 
@@ -59,8 +59,9 @@ pub fn read_with_digits(n: usize, content: &[u8]) -> Result<Loose, LooseFault>
 fn symbolic(content: &[u8]) -> Result<Loose, LooseFault>
     ensures { result ≡ symbolic_of paper content.now }
 {
+    let t = class::table();
     let from = first(content, 5, |b| b != b' ');
-    let end = first(content, from, ends_path);
+    let end = first(content, from, |b| ends_path(&t, b));
     if !name::is_valid(parse::part::between(content, from, end)) {
         return Err(LooseFault::BadTarget);
     }
@@ -87,10 +88,10 @@ fn first<F: Fn(u8) -> bool>(s: &[u8], at: usize, test: F) -> usize
 }
 
 // Whether a byte is NUL, CR or LF.
-fn ends_path(b: u8) -> bool
-    ensures { result ≡ ends_path paper b }
+fn ends_path(t: &[u8; 256], b: u8) -> bool
+    ensures { result ≡ ends_path (classes_of t.now) b }
 {
-    (b == 0) | class::is_cr_or_lf(b)
+    (b == 0) | class::is_line_end(t, b)
 }
 
 // Whether an id of n digits stands at the front, with no further digit behind it.
@@ -100,5 +101,6 @@ fn full_id(n: usize, s: &[u8]) -> bool
     let Some(end) = id::hex_hash(s, 0, n) else {
         return false;
     };
-    s.len() <= end || !class::is_hex_digit(s[end])
+    let t = class::table();
+    s.len() <= end || !class::is_hex(&t, s[end])
 }

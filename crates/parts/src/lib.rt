@@ -18,7 +18,7 @@ pub fn edit_name(list: &[u8], place: u32) -> &[u8]
     ensures { result.now ≡ edit_name list.now place }
 {
     let Some(Length { value, next }) = length::length_at(list, place as usize + 1) else {
-        return &[];
+        return &list[0..0];
     };
     parse::part::between(list, next, next + value)
 }
@@ -43,7 +43,7 @@ fn behind_name(list: &[u8], place: u32) -> &[u8]
     ensures { result.now ≡ behind_name list.now place }
 {
     let Some(Length { value, next }) = length::length_at(list, place as usize + 1) else {
-        return &[];
+        return &list[0..0];
     };
     parse::part::between(list, next + value, list.len())
 }

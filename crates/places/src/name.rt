@@ -49,7 +49,7 @@ fn behind_id(s: &[u8], p: u32, digits: usize) -> &[u8]
 {
     let at = p as usize;
     if s.len() <= at || s.len() - at <= digits {
-        return &[];
+        return &s[0..0];
     }
     let from = at + digits + 1;
     &s[from..]

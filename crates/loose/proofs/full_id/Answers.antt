@@ -2,7 +2,9 @@
 use mathlib.Core.Path.{sym, ap, ◌∙◌}
 use mathlib.Core.Bool.{not}
 use borrow.Author.Tests.{le-leb}
+use lib.ListN.{get_or}
 use Rattle.class.specs.Class.{paper}
+use Rattle.class.proofs.Classes.{by_paper}
 use Rattle.loose.proofs.Ids.{too_few, nothing_behind, by_next}
 use Rattle.loose.proofs.full_id.Goals as goal
 
@@ -15,4 +17,6 @@ returns-then-s-end c =
 
 pub returns-else-s-end : goal.returns-else-s-end
 returns-else-s-end c =
-    ap not c.is_hex_digit.ensures ∙ sym (by_next paper c.args.n c.args.s.now (sym c.hex_hash.ensures ∙ c.in-Some.is) c.if-s-end.false)
+    let a = c.args in
+    ap not (c.is_hex.ensures ∙ by_paper (λ byte. byte.hex (get_or a.s.now c.in-Some.end 0)) c.table-t.ensures)
+    ∙ sym (by_next paper a.n a.s.now (sym c.hex_hash.ensures ∙ c.in-Some.is) c.if-s-end.false)
