@@ -2,7 +2,7 @@
 use mathlib.Core.Path.{◌≡◌, refl, sym, ap, ◌∙◌}
 use mathlib.Core.Bool.{false, ◌&&◌}
 use mathlib.Core.List.{List, [], ◌∷◌, ◌++◌}
-use Prim.Native.Nat.{ℕ, zero, suc, ◌+◌, ◌≤◌, ◌<◌}
+use Prim.Native.Nat.{ℕ, zero, suc, ◌+◌, ◌*◌, ◌≤◌, ◌<◌}
 use native.Mathlib.Omega.{arith}
 use lib.Dec.{eqb}
 use lib.ListN.{get_or, length, drop}
@@ -23,14 +23,13 @@ use Rattle.put.specs.Put.{over}
 use Rattle.put.proofs.Laws.{over_fits}
 use Rattle.merge.specs.Override.{new_of, edits_at}
 use Rattle.merge.specs.Merge.{has_name, is_idle}
-use Rattle.runs.specs.declared.Run.{Run}
-use Rattle.runs.specs.Runs.{at_end, is_still}
+use Rattle.runs.specs.Runs.{Run, run, at_end, marks_of, is_still}
 use Rattle.merge.specs.Splice.{Above, Rising}
 use Rattle.merge.proofs.Entries.{Ascends}
 use Rattle.merge.proofs.OldSound.{none_smaller, olds_ascend}
 use Rattle.merge.proofs.InOrder.{same_greater, lower}
 use Rattle.runs.proofs.RunSteps.{runs_less, runs_equal, runs_greater, length_runs}
-use Rattle.runs.proofs.RunTurns.{runs_of}
+use Rattle.runs.proofs.RunTurns.{runs_of, length_marks}
 use Rattle.std.specs.declared.cmp.Ordering.{Ordering}
 use Rattle.std.specs.declared.cmp.Ordering.TheVariants.{Equal, Greater, Less}
 use Rattle.std.specs.declared.result.Result.{Result}
@@ -57,14 +56,14 @@ module _ (list : List ℕ) where
   lower_above low last [] h a = tt
   lower_above low last (p ∷ ps) h a = (less_trans low last (edit_name list p) h a.0, lower_above low last ps h a.1)
 
-  -- ---- runs that stand behind do not matter
+  -- ---- marks that stand behind do not matter
 
-  still_front : (ps : List ℕ) (rs more : List Run) → length rs ≡ length ps
-      → is_still list ps (rs ++ more) ≡ is_still list ps rs
+  still_front : (ps : List ℕ) (rs : List Run) (more : List ℕ) → length rs ≡ length ps
+      → is_still list ps (marks_of rs ++ more) ≡ is_still list ps (marks_of rs)
   still_front [] rs more h = refl
   still_front (p ∷ ps) [] more h = absurd (omega arith)
-  still_front (p ∷ ps) (r ∷ rs) more h =
-      ap (λ t. eqb (get_or list p 0) 0 && (eqb r.start r.end && t)) (still_front ps rs more (omega arith))
+  still_front (p ∷ ps) (run from to ∷ rs) more h =
+      ap (λ t. eqb (get_or list p 0) 0 && (eqb from to && t)) (still_front ps rs more (omega arith))
 
   module _ (n : ℕ) where
     -- an edit that puts nothing there is a delete
@@ -80,14 +79,14 @@ module _ (list : List ℕ) where
     idle_past r rs (p ∷ ps) a = rw (same_by_order r.name (edit_name list p) ∙ ap is_equal a.0, idle_past r rs ps a.1)
 
     -- behind all records
-    still_at_end : (place : ℕ) (ps : List ℕ) → is_still list ps (at_end place ps) ≡ is_idle [] (edits_at n list ps)
+    still_at_end : (place : ℕ) (ps : List ℕ) → is_still list ps (marks_of (at_end place ps)) ≡ is_idle [] (edits_at n list ps)
     still_at_end place [] = refl
     still_at_end place (p ∷ ps) = rw (none_new (get_or list p 0), eq-eqb place place refl, still_at_end place ps)
 
     -- ---- one step
 
     abbrev Agree : ℕ → List Item → List ℕ → Type 0
-    Agree place l ps = is_still list ps (runs_of n list place l ps) ≡ is_idle (entries_of n l) (edits_at n list ps)
+    Agree place l ps = is_still list ps (marks_of (runs_of n list place l ps)) ≡ is_idle (entries_of n l) (edits_at n list ps)
 
     -- the first item is a record
     module _ (place : ℕ) (r : Record) (bytes : List ℕ) (l : List Item) (p : ℕ) (ps : List ℕ) where
@@ -98,14 +97,14 @@ module _ (list : List ℕ) where
       still_less : order_of (name_of n i) (edit_name list p) ≡ Less → Above list (edit_name list p) ps
           → Agree (place + length i.bytes) l (p ∷ ps) → Agree place (i ∷ l) (p ∷ ps)
       still_less e a rest =
-          ap (is_still list (p ∷ ps)) (runs_less n list place i l p ps e)
+          ap (λ rs. is_still list (p ∷ ps) (marks_of rs)) (runs_less n list place i l p ps e)
           ∙ rest
           ∙ sym (idle_past (entry_of n bytes r) (entries_of n l) (p ∷ ps) (e, lower_above (name_of n i) (edit_name list p) ps e a))
 
       -- it replaces the first record, which has bytes: the run is not empty, and the record has the name
       still_equal : order_of (name_of n i) (edit_name list p) ≡ Equal → 0 < length i.bytes → Agree place (i ∷ l) (p ∷ ps)
       still_equal e h =
-          ap (is_still list (p ∷ ps)) (runs_equal n list place i l p ps e)
+          ap (λ rs. is_still list (p ∷ ps) (marks_of rs)) (runs_equal n list place i l p ps e)
           ∙ rw (ne_eqb place (place + length i.bytes) (λ z. omega arith), same_by_order (name_of n i) (edit_name list p) ∙ ap is_equal e, none_new (get_or list p 0))
 
       -- it belongs in front of the first record: the run is empty, and no record has the name
@@ -115,7 +114,7 @@ module _ (list : List ℕ) where
           let above : Ascends (edit_name list p) (entries_of n (i ∷ l)) =
           (greater_flip (name_of n i) (edit_name list p) e, olds_ascend n (name_of n i) l u)
           in
-          ap (is_still list (p ∷ ps)) (runs_greater n list place i l p ps e)
+          ap (λ rs. is_still list (p ∷ ps) (marks_of rs)) (runs_greater n list place i l p ps e)
           ∙ rw (
             eq-eqb place place refl,
             rest,
@@ -126,7 +125,7 @@ module _ (list : List ℕ) where
     -- ---- all
 
     pub still_is_idle : (place : ℕ) (last : List ℕ) (l : List Item) (ps : List ℕ) → IsAscending n last l → Rising list ps
-        → is_still list ps (runs_of n list place l ps) ≡ is_idle (entries_of n l) (edits_at n list ps)
+        → is_still list ps (marks_of (runs_of n list place l ps)) ≡ is_idle (entries_of n l) (edits_at n list ps)
     still_is_idle place last [] ps u v = still_at_end place ps
     still_is_idle place last (i ∷ l) [] u v = refl
     still_is_idle place last (i ∷ l) (p ∷ ps) u v =
@@ -148,14 +147,14 @@ module _ (list : List ℕ) where
         first (Ok r) u = go r u (order_of (name_in n (Ok r) i.bytes) (edit_name list p)) refl
         first (Err f) u = absurd (none_smaller last u.0)
 
-pub idle_is_still : (n : ℕ) (file list : List ℕ) (body count : ℕ) (ps : List ℕ) (marks₀ marks : List Run)
-    → judge_body paper n file body ≡ Ok count → Rising list ps → length ps ≤ length marks₀
-    → marks ≡ over marks₀ 0 (runs_of n list body (items paper n (drop body file)) ps)
+pub idle_is_still : (n : ℕ) (file list : List ℕ) (body count : ℕ) (ps marks₀ marks : List ℕ)
+    → judge_body paper n file body ≡ Ok count → Rising list ps → 2 * length ps ≤ length marks₀
+    → marks ≡ over marks₀ 0 (marks_of (runs_of n list body (items paper n (drop body file)) ps))
     → is_still list ps marks ≡ is_idle (entries_of n (items paper n (drop body file))) (edits_at n list ps)
 unfolding judge_body
 idle_is_still n file list body count ps marks₀ marks clean rising room m =
     let l = items paper n (drop body file) in
     let rs = runs_of n list body l ps in
-    ap (is_still list ps) (m ∙ over_fits marks₀ rs (omega (arith, length_runs n list body l ps)))
-    ∙ still_front list ps rs (drop (length rs) marks₀) (length_runs n list body l ps)
+    ap (is_still list ps) (m ∙ over_fits marks₀ (marks_of rs) (omega (arith, length_marks rs, length_runs n list body l ps)))
+    ∙ still_front list ps rs (drop (length (marks_of rs)) marks₀) (length_runs n list body l ps)
     ∙ still_is_idle list n body [] l ps (judged n body l clean).up rising

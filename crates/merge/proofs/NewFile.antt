@@ -1,7 +1,7 @@
 -- What is spliced by the marks of the runs is the new file: the old bytes between two runs are the lines of the records there.
 use mathlib.Core.Path.{◌≡◌, refl, sym, ap, ◌∙◌}
 use mathlib.Core.List.{List, [], ◌∷◌, ◌++◌, append_assoc}
-use Prim.Native.Nat.{ℕ, ◌+◌, ◌-◌, ◌≤◌}
+use Prim.Native.Nat.{ℕ, ◌+◌, ◌*◌, ◌-◌, ◌≤◌}
 use native.Mathlib.Omega.{arith}
 use lib.ListN.{length, take, drop, take-append-drop}
 use lib.Seq.{take-add, drop-drop, take-append_seam, drop-append_seam}
@@ -24,13 +24,12 @@ use Rattle.put.proofs.Crs.{without_append}
 use Rattle.lines.specs.Lines.{lines_of, lines_of_all, header_line}
 use Rattle.merge.specs.Override.{Override, edit_at, edits_at}
 use Rattle.merge.specs.Merge.{overridden, new_file}
-use Rattle.runs.specs.declared.Run.{Run}
-use Rattle.runs.specs.Runs.{run}
+use Rattle.runs.specs.Runs.{Run, run, marks_of}
 use Rattle.merge.specs.Splice.{spliced, spliced_file}
 use Rattle.merge.proofs.GoodItems.{OfGood}
 use Rattle.merge.proofs.OldLines.{PlainRecord, AllPlain, olds_plain}
 use Rattle.runs.proofs.RunSteps.{runs_less, runs_equal, runs_greater, length_runs}
-use Rattle.runs.proofs.RunTurns.{runs_of}
+use Rattle.runs.proofs.RunTurns.{runs_of, length_marks}
 use Rattle.merge.proofs.Splice.{new_lines, old_bytes}
 use Rattle.std.specs.declared.cmp.Ordering.{Ordering}
 use Rattle.std.specs.declared.cmp.Ordering.TheVariants.{Equal, Greater, Less}
@@ -103,13 +102,13 @@ module _ (n : ℕ) (file list : List ℕ) where
   -- what is spliced from a place on, where the items l begin at a place behind it
   abbrev Made : ℕ → ℕ → List Item → List ℕ → Type 0
   Made from place l ps =
-      spliced n file list from ps (runs_of n list place l ps)
+      spliced n file list from ps (marks_of (runs_of n list place l ps))
       ≡ old_bytes file from place ++ lines_of_all (overridden (entries_of n l) (edits_at n list ps))
 
   -- an edit's run ends at a place, from which the rest is spliced
   one_edit : (from place to p : ℕ) (ps : List ℕ) (rs : List Run) (rest : List Entry)
-      → spliced n file list to ps rs ≡ old_bytes file to to ++ lines_of_all rest
-      → spliced n file list from (p ∷ ps) (run place to ∷ rs) ≡ old_bytes file from place ++ lines_of_all ((edit_at n list p).new ++ rest)
+      → spliced n file list to ps (marks_of rs) ≡ old_bytes file to to ++ lines_of_all rest
+      → spliced n file list from (p ∷ ps) (marks_of (run place to ∷ rs)) ≡ old_bytes file from place ++ lines_of_all ((edit_at n list p).new ++ rest)
   one_edit from place to p ps rs rest e =
       ap (λ l. old_bytes file from place ++ (new_lines n list p ++ l)) (e ∙ ap (λ o. o ++ lines_of_all rest) (none_old file to))
       ∙ ap (λ l. old_bytes file from place ++ l) (sym (lines_append (edit_at n list p).new rest))
@@ -136,18 +135,18 @@ module _ (n : ℕ) (file list : List ℕ) where
           → Made from next l (p ∷ ps) → Made next next l ps → Made place place (i ∷ l) ps → Made from place (i ∷ l) (p ∷ ps)
       made_one Less o less equal greater =
           let rest = overridden (entries_of n l) (edits_at n list (p ∷ ps)) in
-          ap (spliced n file list from (p ∷ ps)) (runs_less n list place i l p ps o)
+          ap (λ rs. spliced n file list from (p ∷ ps) (marks_of rs)) (runs_less n list place i l p ps o)
           ∙ less
           ∙ ap (λ s. s ++ lines_of_all rest) (more_old file from place h bytes (bytes_of l) d)
           ∙ append_assoc (old_bytes file from place) (without_cr bytes) (lines_of_all rest)
           ∙ ap (λ s. old_bytes file from place ++ (s ++ lines_of_all rest)) plain
           ∙ ap (λ es. old_bytes file from place ++ lines_of_all es) (sym (keeps (entry_of n bytes r) (entries_of n l) (edit_at n list p) (edits_at n list ps) o))
       made_one Equal o less equal greater =
-          ap (spliced n file list from (p ∷ ps)) (runs_equal n list place i l p ps o)
+          ap (λ rs. spliced n file list from (p ∷ ps) (marks_of rs)) (runs_equal n list place i l p ps o)
           ∙ one_edit from place next p ps (runs_of n list next l ps) (overridden (entries_of n l) (edits_at n list ps)) equal
           ∙ ap (λ es. old_bytes file from place ++ lines_of_all es) (sym (replaces (entry_of n bytes r) (entries_of n l) (edit_at n list p) (edits_at n list ps) o))
       made_one Greater o less equal greater =
-          ap (spliced n file list from (p ∷ ps)) (runs_greater n list place i l p ps o)
+          ap (λ rs. spliced n file list from (p ∷ ps) (marks_of rs)) (runs_greater n list place i l p ps o)
           ∙ one_edit from place place p ps (runs_of n list place (i ∷ l) ps) (overridden (entries_of n (i ∷ l)) (edits_at n list ps)) greater
           ∙ ap (λ es. old_bytes file from place ++ lines_of_all es) (sym (precedes (entry_of n bytes r) (entries_of n l) (edit_at n list p) (edits_at n list ps) o))
 
@@ -179,13 +178,13 @@ module _ (n : ℕ) (file list : List ℕ) where
           made_one r i.bytes plain l p ps from place d h (order_of (name_in n (Ok r) i.bytes) (edit_name list p)) refl
       go (Err f) plain = absurd plain
 
-  -- runs behind those of the edits do not matter
-  marks_front : (ps : List ℕ) (rs : List Run) (from : ℕ) (more : List Run) → length rs ≡ length ps
-      → spliced n file list from ps (rs ++ more) ≡ spliced n file list from ps rs
+  -- marks behind those of the edits do not matter
+  marks_front : (ps : List ℕ) (rs : List Run) (from : ℕ) (more : List ℕ) → length rs ≡ length ps
+      → spliced n file list from ps (marks_of rs ++ more) ≡ spliced n file list from ps (marks_of rs)
   marks_front [] rs from more h = refl
   marks_front (p ∷ ps) [] from more h = absurd (omega arith)
-  marks_front (p ∷ ps) (r ∷ rs) from more h =
-      ap (λ s. old_bytes file from r.start ++ (new_lines n list p ++ s)) (marks_front ps rs r.end more (omega arith))
+  marks_front (p ∷ ps) (run start end ∷ rs) from more h =
+      ap (λ s. old_bytes file from start ++ (new_lines n list p ++ s)) (marks_front ps rs end more (omega arith))
 
 -- ---- a file that passes the check
 
@@ -194,20 +193,20 @@ pub clean_passes : (n : ℕ) (file : List ℕ) (body count : ℕ) → judge_body
 unfolding judge_body
 clean_passes n file body count e = judged n body (items paper n (drop body file)) e
 
-pub spliced_is_new : (n : ℕ) (file : List ℕ) (body : ℕ) (list ps : List ℕ) (marks₀ marks : List Run) (count : ℕ)
+pub spliced_is_new : (n : ℕ) (file : List ℕ) (body : ℕ) (list ps marks₀ marks : List ℕ) (count : ℕ)
     → judge_body paper n file body ≡ Ok count
-    → length ps ≤ length marks₀
-    → marks ≡ over marks₀ 0 (runs_of n list body (items paper n (drop body file)) ps)
+    → 2 * length ps ≤ length marks₀
+    → marks ≡ over marks₀ 0 (marks_of (runs_of n list body (items paper n (drop body file)) ps))
     → spliced_file header_line n file list body ps marks ≡ new_file (entries_of n (items paper n (drop body file))) (edits_at n list ps)
 unfolding spliced_file new_file
 spliced_is_new n file body list ps marks₀ marks count clean room m =
     let olds = items paper n (drop body file) in
     let rs = runs_of n list body olds ps in
     let long : length rs ≡ length ps = length_runs n list body olds ps in
-    let fits : length rs ≤ length marks₀ = omega arith in
+    let fits : length (marks_of rs) ≤ length marks₀ = omega (arith, length_marks rs) in
     let tiled : drop body file ≡ bytes_of olds = sym (tile paper n (drop body file)) in
     let plain = olds_plain n (drop body file) (clean_passes n file body count clean).good in
-    ap (λ l. header_line ++ spliced n file list body ps l) (m ∙ over_fits marks₀ rs fits)
-    ∙ ap (λ s. header_line ++ s) (marks_front n file list ps rs body (drop (length rs) marks₀) long)
+    ap (λ l. header_line ++ spliced n file list body ps l) (m ∙ over_fits marks₀ (marks_of rs) fits)
+    ∙ ap (λ s. header_line ++ s) (marks_front n file list ps rs body (drop (length (marks_of rs)) marks₀) long)
     ∙ ap (λ s. header_line ++ s) (made n file list olds ps body body plain tiled (omega arith))
     ∙ ap (λ s. header_line ++ (s ++ lines_of_all (overridden (entries_of n olds) (edits_at n list ps)))) (none_old file body)

@@ -1,7 +1,7 @@
 -- What the new file is made of: an edit's lines by its kind, and the bytes that a turn of the writing puts.
 use mathlib.Core.Path.{◌≡◌, refl, sym, ap, ◌∙◌}
 use mathlib.Core.List.{List, ◌∷◌, ◌++◌, append-nil, []}
-use Prim.Native.Nat.{ℕ, zero, suc, ◌+◌, ◌-◌, ◌≤◌, ◌<◌}
+use Prim.Native.Nat.{ℕ, zero, suc, ◌+◌, ◌*◌, ◌-◌, ◌≤◌, ◌<◌}
 use native.Mathlib.Nat.{add-zero}
 use native.Mathlib.Numerals.{add-one}
 use native.Mathlib.Omega.{arith}
@@ -14,8 +14,6 @@ use Rattle.put.specs.Cr.{without_cr}
 use Rattle.put.proofs.Laws.{Puts}
 use Rattle.lines.specs.Lines.{record_line, peeled_line, lines_of_all}
 use Rattle.lines.proofs.Lines.{three_put}
-use Rattle.runs.specs.declared.Run.{Run}
-use Rattle.runs.specs.Runs.{run, run_at}
 use Rattle.merge.specs.Override.{new_of, edit_at}
 use Rattle.merge.specs.Splice.{spliced}
 
@@ -65,28 +63,29 @@ module _ (file : List ℕ) where
   abbrev pub old_bytes : ℕ → ℕ → List ℕ
   old_bytes from to = without_cr (take (to - from) (drop from file))
 
-module _ (n : ℕ) (file list index : List ℕ) (marks : List Run) where
+module _ (n : ℕ) (file list index marks : List ℕ) where
   -- what is still to be put when j edits are, and the old bytes up to a place
   abbrev pub spliced_from : ℕ → ℕ → List ℕ
-  spliced_from from j = spliced n file list from (drop j index) (drop j marks)
+  spliced_from from j = spliced n file list from (drop j index) (drop (2 * j) marks)
 
   pub spliced_end : (from j : ℕ) → length index ≤ j → spliced_from from j ≡ without_cr (drop from file)
-  spliced_end from j h = ap (λ ps. spliced n file list from ps (drop j marks)) (drop_of_length-le index h)
+  spliced_end from j h = ap (λ ps. spliced n file list from ps (drop (2 * j) marks)) (drop_of_length-le index h)
 
   module _ (from j : ℕ) (h : j < length index) where
     abbrev old : List ℕ
-    old = old_bytes file from (run_at marks j).start
+    old = old_bytes file from (get_or marks (2 * j) 0)
 
     abbrev new : List ℕ
     new = new_lines n list (get_or index j 0)
 
     abbrev rest : List ℕ
-    rest = spliced_from (run_at marks j).end (j + 1)
+    rest = spliced_from (get_or marks (2 * j + 1) 0) (j + 1)
 
     pub spliced_turn : spliced_from from j ≡ old ++ (new ++ rest)
     spliced_turn =
-        ap (λ ps. spliced n file list from ps (drop j marks)) (drop-cons index j 0 h ∙ ap (λ k. get_or index j 0 ∷ drop k index) (sym (add-one j)))
-        ∙ rw (get_or-drop j marks 0 (run 0 0), drop-drop 1 j marks, add-zero)
+        let next : 2 * j + 2 ≡ 2 * (j + 1) = omega arith in
+        ap (λ ps. spliced n file list from ps (drop (2 * j) marks)) (drop-cons index j 0 h ∙ ap (λ k. get_or index j 0 ∷ drop k index) (sym (add-one j)))
+        ∙ rw (get_or-drop (2 * j) marks 0 0, get_or-drop (2 * j) marks 1 0, drop-drop 2 (2 * j) marks, add-zero, next)
 
     -- the old bytes and the lines are put: what is left goes behind them
     pub put_turn : (d d₁ d₂ : List ℕ) (at k m : ℕ) → length d ≤ 18446744073709551615 → Puts d at old d₁ k → Puts d₁ k new d₂ m

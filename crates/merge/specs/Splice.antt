@@ -1,28 +1,26 @@
 -- How the new file is made from the runs, for the contracts of the inner functions. `spliced-is-new` (proofs/NewFile.antt) shows that this is the new
 -- file of Merge.antt.
-use Rattle.std.specs.Prelude.{◌≡◌, Bool, List, [], ◌∷◌, ◌++◌, ℕ, ◌-◌, eqb, ltb, length, take, drop, Result, Ok, Err}
+use Rattle.std.specs.Prelude.{◌≡◌, Bool, List, [], ◌∷◌, ◌++◌, ℕ, ◌-◌, eqb, ltb, get_or, length, take, drop, Result, Ok, Err}
 use Rattle.parse.specs.Choice.{if}
 use Rattle.compare.specs.Order.{order_of}
 use Rattle.parts.specs.Parts.{edit_name}
 use Rattle.put.specs.Cr.{without_cr}
 use Rattle.lines.specs.Lines.{lines_of_all}
-use Rattle.runs.specs.declared.Run.{Run}
-use Rattle.runs.specs.Runs.{run_at}
 use Rattle.merge.specs.Override.{edit_at}
 use Rattle.std.specs.declared.cmp.Ordering.TheVariants.{Less}
 use Rattle.merge.specs.declared.NotMerged.{NotMerged}
 use Rattle.merge.specs.declared.NotMerged.TheVariants.{NoRecord, NothingToDo, ShortOutput}
 
--- ---- the new file by the runs: old bytes without their CRs up to where an edit's run starts; the edit's lines; and on from where
+-- ---- the new file by the marks: old bytes without their CRs up to where an edit's run starts; the edit's lines; and on from where
 -- the run ends
 
-abbrev pub spliced : ℕ → List ℕ → List ℕ → ℕ → List ℕ → List Run → List ℕ
+abbrev pub spliced : ℕ → List ℕ → List ℕ → ℕ → List ℕ → List ℕ → List ℕ
 spliced n file list from [] marks = without_cr (drop from file)
 spliced n file list from (p ∷ ps) marks =
-    without_cr (take ((run_at marks 0).start - from) (drop from file))
-    ++ (lines_of_all (edit_at n list p).new ++ spliced n file list (run_at marks 0).end ps (drop 1 marks))
+    without_cr (take (get_or marks 0 0 - from) (drop from file))
+    ++ (lines_of_all (edit_at n list p).new ++ spliced n file list (get_or marks 1 0) ps (drop 2 marks))
 
-unfoldable pub spliced_file : List ℕ → ℕ → List ℕ → List ℕ → ℕ → List ℕ → List Run → List ℕ
+unfoldable pub spliced_file : List ℕ → ℕ → List ℕ → List ℕ → ℕ → List ℕ → List ℕ → List ℕ
 spliced_file header n file list body ps marks = header ++ spliced n file list body ps marks
 
 -- "13, 14, 12" by them: no record remains where the new file is its header

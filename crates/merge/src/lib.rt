@@ -23,7 +23,6 @@ use checks::Refusal;
 use edits::list::{ListFault, NotPrepared};
 use header::BadHeader;
 use parse::limit::NotAdmitted;
-use runs::Run;
 
 mod write;
 
@@ -153,9 +152,9 @@ fn behind_header(
     finish(n, old, body, list, index, &marks, out)
 }
 
-// Room for each edit's run, in fixed memory: nothing here allocates.
-fn no_marks() -> [Run; 4096] {
-    [Run { start: 0, end: 0 }; 4096]
+// Room for the start and the end of each edit's run, in fixed memory: nothing here allocates.
+fn no_marks() -> [usize; 8192] {
+    [0; 8192]
 }
 
 // The merge once the old file has passed the check and the runs are known: 13, 14 and 12, then the writing. Nothing is written before all
@@ -166,7 +165,7 @@ fn finish(
     body: usize,
     list: &[u8],
     index: &[u32],
-    marks: &[Run],
+    marks: &[usize],
     out: &mut [u8],
 ) -> Result<usize, NotMerged>
     ensures value { result ≡ spliced_answer header_line (is_still list.now index.now marks.now) (spliced_file header_line n old.now list.now body index.now marks.now) (length out.old) }

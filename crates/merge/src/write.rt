@@ -5,8 +5,6 @@ ghost use Rattle.put.specs.Put.{over, place_behind};
 ghost use Rattle.merge.specs.Override.{edit_at};
 ghost use Rattle.merge.specs.Splice.{spliced_file};
 
-use runs::Run;
-
 // Writes as far as there is room. Gives the length of the whole new file even where it has no room, so that a call with an empty output measures it.
 pub(crate) fn write(
     header: &[u8],
@@ -15,7 +13,7 @@ pub(crate) fn write(
     body: usize,
     list: &[u8],
     index: &[u32],
-    marks: &[Run],
+    marks: &[usize],
     out: &mut [u8],
 ) -> usize
     ensures value { result ≡ place_behind 0 (length (spliced_file header.now n file.now list.now body index.now marks.now)) }
@@ -24,10 +22,13 @@ pub(crate) fn write(
     let mut at = put::bytes(out, 0, header);
     let mut from = body;
     for (j, place) in index.iter().enumerate() {
-        let run = runs::mark_at(marks, j);
-        at = put::lf(out, at, parse::part::between(file, from, run.start));
+        at = put::lf(
+            out,
+            at,
+            parse::part::between(file, from, runs::mark_at(marks, 2 * j)),
+        );
         at = put_new(n, list, *place, out, at);
-        from = run.end;
+        from = runs::mark_at(marks, 2 * j + 1);
     }
     put::lf(out, at, parse::part::between(file, from, file.len()))
 }

@@ -2,7 +2,7 @@
 use mathlib.Core.Path.{◌≡◌, refl, sym, ap, ◌∙◌}
 use mathlib.Core.Bool.{Bool, true, false}
 use mathlib.Core.List.{List, [], ◌∷◌, ◌++◌}
-use Prim.Native.Nat.{ℕ, suc, ◌+◌, ◌≤◌}
+use Prim.Native.Nat.{ℕ, suc, ◌+◌, ◌*◌, ◌≤◌}
 use native.Mathlib.Omega.{arith}
 use lib.ListN.{length, drop, drop_of_length-le}
 use lib.Seq.{drop-drop}
@@ -23,8 +23,7 @@ use Rattle.checks.proofs.CheckTurns.{Spot, Stopped}
 use Rattle.put.specs.Put.{over}
 use Rattle.put.proofs.Laws.{over_nil, over_twice}
 use Rattle.parts.specs.Parts.{edit_name}
-use Rattle.runs.specs.Runs.{run, settles, at_end, surveyed}
-use Rattle.runs.specs.declared.Run.{Run}
+use Rattle.runs.specs.Runs.{Run, run, settles, at_end, surveyed, marks_of}
 use Rattle.std.specs.declared.cmp.Ordering.{Ordering}
 use Rattle.std.specs.declared.cmp.Ordering.TheVariants.{Equal, Greater, Less}
 use Rattle.std.specs.declared.result.Result.{Result}
@@ -36,6 +35,14 @@ runs_of n list place [] ps = at_end place ps
 runs_of n list place (i ∷ l) ps =
     let here = settles list (name_of n i) place (place + length i.bytes) ps in
     here ++ runs_of n list (place + length i.bytes) l (drop (length here) ps)
+
+pub marks_append : (a b : List Run) → marks_of (a ++ b) ≡ marks_of a ++ marks_of b
+marks_append [] b = refl
+marks_append (run from to ∷ a) b = ap (λ l. from ∷ to ∷ l) (marks_append a b)
+
+pub length_marks : (l : List Run) → length (marks_of l) ≡ 2 * length l
+length_marks [] = refl
+length_marks (run from to ∷ l) = omega (arith, length_marks l)
 
 -- a record settles no more edits than there are
 pub settles_le : (list name : List ℕ) (place next : ℕ) (ps : List ℕ) → length (settles list name place next ps) ≤ length ps
@@ -50,15 +57,15 @@ settles_le list name place next (p ∷ ps) = go (order_of name (edit_name list p
 
 -- the marks of the runs among the items from a place on, behind a record of the name last, put from the number j on
 module _ (byte : Classes) (n : ℕ) (file list index : List ℕ) where
-  abbrev pub marked : ℕ → List ℕ → ℕ → List Run → List Run
-  marked place last j marks = over marks j (surveyed n list place last (items byte n (drop place file)) (drop j index))
+  abbrev pub marked : ℕ → List ℕ → ℕ → List ℕ → List ℕ
+  marked place last j marks = over marks (2 * j) (marks_of (surveyed n list place last (items byte n (drop place file)) (drop j index)))
 
-  module _ (place : ℕ) (last : List ℕ) (j : ℕ) (marks : List Run) where
-    pub marked_end : length file ≤ place → marked place last j marks ≡ over marks j (at_end place (drop j index))
+  module _ (place : ℕ) (last : List ℕ) (j : ℕ) (marks : List ℕ) where
+    pub marked_end : length file ≤ place → marked place last j marks ≡ over marks (2 * j) (marks_of (at_end place (drop j index)))
     marked_end h = rw (drop_of_length-le file h, items_nil byte n)
 
     marked_bad : {f : Fault} → Reads byte n file place (Err f) → marked place last j marks ≡ marks
-    marked_bad {f} k = let h = head_bad byte n file place k.inside f k.is in rw (h.all, h.is) (over_nil marks j)
+    marked_bad {f} k = let h = head_bad byte n file place k.inside f k.is in rw (h.all, h.is) (over_nil marks (2 * j))
 
     module _ {r : Record} (k : Reads byte n file place (Ok r)) where
       abbrev here : List Run
@@ -72,23 +79,24 @@ module _ (byte : Classes) (n : ℕ) (file list index : List ℕ) where
       surveyed_here = let h = head_good byte n file place r k.is k.inside in rw (h.all, h.is, h.name, h.long)
 
       marked_unsorted : smaller last (named k) ≡ false → marked place last j marks ≡ marks
-      marked_unsorted e = rw (surveyed_here, e) (over_nil marks j)
+      marked_unsorted e = rw (surveyed_here, e) (over_nil marks (2 * j))
 
-      pub marked_on : smaller last (named k) ≡ true → (x : List ℕ) → x ≡ named k → (j' : ℕ) (marks' : List Run) → j' ≡ j + length here
-          → marks' ≡ over marks j here
+      pub marked_on : smaller last (named k) ≡ true → (x : List ℕ) → x ≡ named k → (j' : ℕ) (marks' : List ℕ) → j' ≡ j + length here
+          → marks' ≡ over marks (2 * j) (marks_of here)
           → marked (place + r.size) x j' marks' ≡ marked place last j marks
       marked_on e x same j' marks' number put =
           let rest = behind (drop (j + length here) index) in
           ap (λ y. marked (place + r.size) y j' marks') same
           ∙ ap (λ i. marked (place + r.size) (named k) i marks') number
-          ∙ ap (λ d. over d (j + length here) rest) put
-          ∙ over_twice marks j (j + length here) here rest refl
-          ∙ ap (λ ps. over marks j (here ++ behind ps)) (sym (drop-drop (length here) j index))
-          ∙ ap (λ b. over marks j (if b (here ++ behind (drop (length here) (drop j index))) [])) (sym e)
-          ∙ ap (over marks j) (sym surveyed_here)
+          ∙ ap (λ d. over d (2 * (j + length here)) (marks_of rest)) put
+          ∙ over_twice marks (2 * j) (2 * (j + length here)) (marks_of here) (marks_of rest) (omega (arith, length_marks here))
+          ∙ ap (over marks (2 * j)) (sym (marks_append here rest))
+          ∙ ap (λ ps. over marks (2 * j) (marks_of (here ++ behind ps))) (sym (drop-drop (length here) j index))
+          ∙ ap (λ b. over marks (2 * j) (marks_of (if b (here ++ behind (drop (length here) (drop j index))) []))) (sym e)
+          ∙ ap (λ l. over marks (2 * j) (marks_of l)) (sym surveyed_here)
 
 -- where the check stops, no further edit gets a run
-pub marked_stop : (s : Spot) (list index : List ℕ) (j : ℕ) (marks : List Run) (why : Refusal) → Stopped s why
+pub marked_stop : (s : Spot) (list index : List ℕ) (j : ℕ) (marks : List ℕ) (why : Refusal) → Stopped s why
     → marked s.byte s.n s.file list index s.place s.last j marks ≡ marks
 marked_stop s list index j marks (BadHeader text) x = absurd x
 marked_stop s list index j marks (BadRecord place f) (_, k) = marked_bad s.byte s.n s.file list index s.place s.last j marks k

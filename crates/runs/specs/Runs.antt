@@ -5,10 +5,9 @@ use Rattle.compare.specs.Order.{order_of, smaller, by_order}
 use Rattle.decode.specs.Record.{decoded}
 use Rattle.iter.specs.Items.{Item, name_of}
 use Rattle.parts.specs.Parts.{edit_kind, edit_name}
-use Rattle.runs.specs.declared.Run.{Run}
 
-abbrev pub run : ℕ → ℕ → Run
-run start end = record { start = start; end = end }
+pub data Run : Type 0 where
+  run : (from to : ℕ) → Run
 
 -- the runs that a record settles. It has a name and reaches from a place to the next; ps are the places of edits in name order. An edit of a
 -- smaller name belongs in front of the record: its run is empty. An edit of the record's name replaces it: its run is the record. An edit of a
@@ -33,12 +32,13 @@ surveyed n list place last (i ∷ l) ps =
     (λ r. if (smaller last (name_of n i)) (here ++ surveyed n list (place + length i.bytes) (name_of n i) l (drop (length here) ps)) [])
     (λ f. [])
 
--- the run at a place among some, and an empty one where there is none
-abbrev pub run_at : List Run → ℕ → Run
-run_at marks j = get_or marks j (run 0 0)
+-- the start and the end of each run, one after another
+abbrev pub marks_of : List Run → List ℕ
+marks_of [] = []
+marks_of (run from to ∷ l) = from ∷ to ∷ marks_of l
 
 -- no update, and every run is empty
-abbrev pub is_still : List ℕ → List ℕ → List Run → Bool
+abbrev pub is_still : List ℕ → List ℕ → List ℕ → Bool
 is_still list [] marks = true
 is_still list (p ∷ ps) marks =
-    eqb (edit_kind list p) 0 && (eqb (run_at marks 0).start (run_at marks 0).end && is_still list ps (drop 1 marks))
+    eqb (edit_kind list p) 0 && (eqb (get_or marks 0 0) (get_or marks 1 0) && is_still list ps (drop 2 marks))

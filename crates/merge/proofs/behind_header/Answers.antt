@@ -1,6 +1,6 @@
 -- `merge::behind_header` meets its contract: the file that is spliced from the runs is the new file.
 use mathlib.Core.Path.{sym, ap, ◌∙◌}
-use Prim.Native.Nat.{◌≤◌}
+use Prim.Native.Nat.{◌*◌, ◌≤◌}
 use lib.ListN.{length, drop}
 use Rattle.class.specs.Class.{paper}
 use Rattle.iter.specs.Entries.{entries_of}
@@ -8,6 +8,7 @@ use Rattle.iter.specs.Items.{items}
 use Rattle.merge.specs.Override.{edits_at}
 use Rattle.put.specs.Put.{over}
 use Rattle.merge.specs.Merge.{new_file, judged_by, output_by}
+use Rattle.runs.specs.Runs.{marks_of}
 use Rattle.runs.proofs.RunTurns.{surveyed_body}
 use Rattle.merge.proofs.Answers.{old_refused}
 use Rattle.merge.proofs.Finished.{finished_is}
@@ -28,9 +29,9 @@ returns c =
     let fresh = c.no_marks-marks.result in
     let marked = c.survey.new.marks in
     let marks = c.survey.ensures.marks_after
-    ∙ ap (over fresh 0) (surveyed_body paper a.n a.old.now a.list.now a.body a.index.now count clean) in
-    -- there is room for each run
-    let enough : length a.index.now ≤ length fresh = search rules in
+    ∙ ap (λ l. over fresh 0 (marks_of l)) (surveyed_body paper a.n a.old.now a.list.now a.body a.index.now count clean) in
+    -- there is a mark for both ends of each run
+    let enough : 2 * length a.index.now ≤ length fresh = search rules in
     let new = spliced_is_new a.n a.old.now a.body a.list.now a.index.now fresh marked count clean enough marks in
     let still = idle_is_still a.n a.old.now a.list.now a.body count a.index.now fresh marked clean c.requires.1 enough marks in
     record {

@@ -6,8 +6,7 @@ use native.Mathlib.Omega.{arith}
 use lib.ListN.{length, drop}
 use Rattle.compare.specs.Order.{order_of}
 use Rattle.parts.specs.Parts.{edit_name}
-use Rattle.runs.specs.Runs.{settles}
-use Rattle.runs.specs.declared.Run.{Run}
+use Rattle.runs.specs.Runs.{Run, settles}
 use Rattle.runs.proofs.Marks.{ends, ends_with, goes_on, settles_end, settles_less, settles_equal, settles_greater}
 use borrow.Author.Rules.{rules}
 use Rattle.runs.proofs.settle.Goals as goal

@@ -2,8 +2,7 @@
 use mathlib.Core.List.{List}
 use Prim.Native.Nat.{ℕ}
 use lib.ListN.{drop}
-use Rattle.runs.specs.Runs.{settles}
-use Rattle.runs.specs.declared.Run.{Run}
+use Rattle.runs.specs.Runs.{Run, settles}
 use Rattle.runs.proofs.Marks.{Going}
 use Rattle.runs.proofs.settle.Given as goal
 

@@ -2,8 +2,7 @@
 use Prim.Native.Nat.{ℕ}
 use mathlib.Core.List.{List}
 use lib.ListN.{drop}
-use Rattle.runs.specs.Runs.{at_end}
-use Rattle.runs.specs.declared.Run.{Run}
+use Rattle.runs.specs.Runs.{Run, at_end}
 use Rattle.runs.proofs.Marks.{ends, goes_on, at_end_none, at_end_one}
 use borrow.Author.Rules.{rules}
 use Rattle.runs.proofs.settle_rest.Goals as goal

@@ -1,7 +1,7 @@
 -- `runs::survey` meets its contract: the check goes as in `checks`, and beside it each record settles its edits.
 use mathlib.Core.Path.{◌≡◌, refl, sym, ap, ◌∙◌}
 use mathlib.Core.List.{List}
-use Prim.Native.Nat.{ℕ, ◌+◌}
+use Prim.Native.Nat.{ℕ, ◌+◌, ◌*◌}
 use native.Mathlib.Numerals.{add-one}
 use native.Mathlib.Omega.{arith}
 use lib.ListN.{length, drop}
@@ -10,7 +10,7 @@ use Rattle.checks.specs.Check.{judge_body}
 use Rattle.iter.proofs.ItemRead.{goes_on, named, named_is}
 use Rattle.checks.proofs.CheckTurns.{Turned, spot, turned, judged}
 use Rattle.put.specs.Put.{over}
-use Rattle.runs.specs.Runs.{settles}
+use Rattle.runs.specs.Runs.{settles, marks_of}
 use Rattle.runs.proofs.RunTurns.{marked_end, marked_stop, marked_on}
 use borrow.Author.Rules.{rules}
 use Rattle.runs.proofs.survey.Goals.{In-Ok-Some}
@@ -69,7 +69,7 @@ loop-marks-preserved c =
     let name = named_is told.0 c.name_of-last.ensures in
     let settled = λ (x : List ℕ). settles a.list.now x l.place (l.place + c.in-Ok-Some.found.size) (drop l.j a.index.now) in
     let number : c.settle-j.result ≡ l.j + length (settled (named told.0)) = c.settle-j.ensures.value ∙ ap (λ x. l.j + length (settled x)) name in
-    let marks = c.settle-j.ensures.marks_after ∙ ap (λ x. over l.marks l.j (settled x)) name in (
+    let marks = c.settle-j.ensures.marks_after ∙ ap (λ x. over l.marks (2 * l.j) (marks_of (settled x))) name in (
       omega (arith, goes_on told.0, l.invariant.0),
       rw (add-one, name) (sym (judged s l.count (Ok (Some c.in-Ok-Some.found)) told) ∙ l.invariant.1),
       marked_on paper a.n a.file.now a.list.now a.index.now l.place l.last.now l.j l.marks told.0 told.1 _ name c.settle-j.result c.settle-j.new.marks number

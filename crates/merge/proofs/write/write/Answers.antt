@@ -18,12 +18,12 @@ loop-j-preserved c =
     let before = l.invariant in
     let inside : l.j < length a.index.now = search rules in
     let room : length l.out ≤ 18446744073709551615 = omega (arith, before.0, c.bytes-at.auto.out, c.well_formed) in
-    let old = ap without_cr c.between.ensures ∙ ap (λ r. old_bytes a.file.now l.from r.start) c.mark_at-run.ensures in
+    let old = ap without_cr c.between.ensures ∙ ap (old_bytes a.file.now l.from) c.mark_at.ensures in
     let t =
     put_turn a.n a.file.now a.list.now a.index.now a.marks.now l.from l.j inside l.out _ _ l.at _ _ room (puts_as l.out l.at old c.lf-at.ensures)
     (c.put_new-at.ensures.out_after, c.put_new-at.ensures.value)
     in
-    rw c.mark_at-run.ensures (c.put_new-at.auto.out ∙ c.lf-at.auto.out ∙ before.0, t.0 ∙ before.1, t.1 ∙ before.2)
+    rw c.mark_at-from.ensures (c.put_new-at.auto.out ∙ c.lf-at.auto.out ∙ before.0, t.0 ∙ before.1, t.1 ∙ before.2)
 
 pub returns : goal.returns
 unfolding spliced_file
