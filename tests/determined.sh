@@ -4,15 +4,17 @@ set -u
 cd "$(dirname "$0")/.." || exit 1
 
 # The public functions of the libraries, as crate::module::function, a method with its type before it. A file of src/ that is not lib.rt is a module. No crate can name what a static
-# library has, so host_c, which gives C what host has, is held to host below.
+# library has, so host_c, which gives C what host has, is held to host below. A method that a type has from a trait is as public as the type, and listed under the name that the
+# toolchain makes of both: `from` of `impl From<BadHeader> for Refusal` as RefusalFromBadHeader::from.
 public=$(for f in crates/*/src/*.rt; do
     crate=${f#crates/}; crate=${crate%%/*}
     [ ! -e "crates/$crate/src/main.rt" ] || continue
     ! grep -q "^$crate staticlib:" crates.txt || continue
     module=$(basename "$f" .rt); [ "$module" = lib ] && module= || module=$module::
-    awk -v at="$crate::$module" '/^impl/ { sub(/^impl(<[^>]*>)? /, ""); sub(/[^A-Za-z0-9_].*/, ""); type = $0 "::" }
-        /^}/ { type = "" }
-        match($0, /^ *pub (extern "C" )?fn [a-z0-9_]+/) { name = substr($0, RSTART, RLENGTH); sub(/.* /, "", name); print at type name }' "$f"
+    awk -v at="$crate::$module" '/^impl/ { sub(/^impl(<[^>]*>)? /, ""); trait = $0; if (!sub(/ for .*/, "", trait)) trait = ""; sub(/.* for /, "")
+            gsub(/[^A-Za-z0-9_]/, "", trait); sub(/[^A-Za-z0-9_].*/, ""); type = $0 trait "::" }
+        /^}/ { type = trait = "" }
+        match($0, /^ *pub (extern "C" )?fn [a-z0-9_]+/) || trait != "" && match($0, /^    fn [a-z0-9_]+/) { name = substr($0, RSTART, RLENGTH); sub(/.* /, "", name); print at type name }' "$f"
 done)
 count=0
 for f in $public; do

@@ -16,4 +16,5 @@ edits = record {
   sort_first_twin = λ m k o o'. by_answer k o o' refl;
   edit_read = λ m k o o'. by_answer k o o' refl;
   edits_prepare = λ m k o o'. clauses_2 m.𝓤 (λ p q. same k o o' (one p.0 q.0) (λ i. (tt, (tt, (one p.1 q.1 i, tt)))));
+  edits_from_list_fault = λ m k o o'. by_answer k o o' refl;
 }

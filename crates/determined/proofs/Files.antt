@@ -28,6 +28,7 @@ files = record {
   checks_check_from = λ m k o o'. by_answer k o o' refl;
   checks_refused = λ m k o o'. by_answer k o o' refl;
   checks_take_turn = λ m k o o'. by_answer k o o' refl;
+  checks_from_bad_header = λ m k o o'. by_answer k o o' refl;
   loose_read = λ m k o o'. by_answer k o o' refl;
   loose_read_with_digits = λ m k o o'. by_answer k o o' refl;
   loose_target_of = λ m k o o'. by_shown k o o' refl;

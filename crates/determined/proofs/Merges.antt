@@ -19,4 +19,8 @@ merges = record {
   runs_mark_at = λ m k o o'. by_answer k o o' refl;
   merge_merge = λ m k o o'. clauses_3 m.𝓤 (λ p q. same k o o' (one p.0 q.0) (λ i. (tt, (tt, (tt, (one p.1.0 q.1.0 i, (one p.1.1 q.1.1 i, tt)))))));
   merge_with_digits_lem = λ m k o o'. clauses_3 m.𝓤 (λ p q. same k o o' (one p.0 q.0) (λ i. (tt, (tt, (tt, (one p.1.0 q.1.0 i, (one p.1.1 q.1.1 i, tt)))))));
+  merge_from_not_admitted = λ m k o o'. by_answer k o o' refl;
+  merge_from_not_prepared = λ m k o o'. by_answer k o o' refl;
+  merge_from_bad_header = λ m k o o'. by_answer k o o' refl;
+  merge_from_refusal = λ m k o o'. by_answer k o o' refl;
 }

@@ -10,6 +10,7 @@ use Rattle.sort.specs.contracts.sort
 use Rattle.sort.specs.contracts.twin.first_twin
 use Rattle.edit.specs.contracts.read
 use Rattle.edits.specs.contracts.list.prepare
+use Rattle.edits.specs.contracts.list.NotPreparedFromListFault.from as from_list_fault
 use Rattle.determined.specs.Outcomes.{Determined, DeterminedAs}
 
 pub record Edits : Type 2 where
@@ -24,3 +25,4 @@ pub record Edits : Type 2 where
   pub sort_first_twin : Determined first_twin.ended (λ M 𝓤. first_twin.clauses)
   pub edit_read : Determined read.ended (λ M 𝓤. read.clauses)
   pub edits_prepare : Determined prepare.ended (λ M 𝓤. prepare.clauses)
+  pub edits_from_list_fault : Determined from_list_fault.ended (λ M 𝓤. from_list_fault.clauses)

@@ -22,6 +22,7 @@ use Rattle.checks.specs.contracts.check_with_digits
 use Rattle.checks.specs.contracts.check_from
 use Rattle.checks.specs.contracts.refused
 use Rattle.checks.specs.contracts.take_turn
+use Rattle.checks.specs.contracts.RefusalFromBadHeader.from as from_bad_header
 use Rattle.loose.specs.contracts.read
 use Rattle.loose.specs.contracts.read_with_digits
 use Rattle.loose.specs.contracts.target_of
@@ -51,6 +52,7 @@ pub record Files : Type 2 where
   pub checks_check_from : Determined check_from.ended (λ M 𝓤. check_from.clauses)
   pub checks_refused : Determined refused.ended (λ M 𝓤. refused.clauses)
   pub checks_take_turn : Determined take_turn.ended (λ M 𝓤. take_turn.clauses)
+  pub checks_from_bad_header : Determined from_bad_header.ended (λ M 𝓤. from_bad_header.clauses)
   pub loose_read : Determined read.ended (λ M 𝓤. read.clauses)
   pub loose_read_with_digits : Determined read_with_digits.ended (λ M 𝓤. read_with_digits.clauses)
   pub loose_target_of : DeterminedAs target_of.ended (λ M 𝓤. target_of.clauses) (λ κs r. r.now)

@@ -13,6 +13,10 @@ use Rattle.runs.specs.contracts.is_still
 use Rattle.runs.specs.contracts.mark_at
 use Rattle.merge.specs.contracts.merge
 use Rattle.merge.specs.contracts.merge_with_digits
+use Rattle.merge.specs.contracts.NotMergedFromNotAdmitted.from as from_not_admitted
+use Rattle.merge.specs.contracts.NotMergedFromNotPrepared.from as from_not_prepared
+use Rattle.merge.specs.contracts.NotMergedFromBadHeader.from as from_bad_header
+use Rattle.merge.specs.contracts.NotMergedFromRefusal.from as from_refusal
 use Rattle.determined.specs.Outcomes.{Determined}
 
 pub record Merges : Type 2 where
@@ -30,3 +34,7 @@ pub record Merges : Type 2 where
   pub runs_mark_at : Determined mark_at.ended (λ M 𝓤. mark_at.clauses)
   pub merge_merge : Determined merge.ended (λ M 𝓤. merge.clauses)
   pub merge_with_digits_lem : Determined merge_with_digits.ended (λ M 𝓤. merge_with_digits.clauses)
+  pub merge_from_not_admitted : Determined from_not_admitted.ended (λ M 𝓤. from_not_admitted.clauses)
+  pub merge_from_not_prepared : Determined from_not_prepared.ended (λ M 𝓤. from_not_prepared.clauses)
+  pub merge_from_bad_header : Determined from_bad_header.ended (λ M 𝓤. from_bad_header.clauses)
+  pub merge_from_refusal : Determined from_refusal.ended (λ M 𝓤. from_refusal.clauses)
