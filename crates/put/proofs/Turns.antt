@@ -1,18 +1,39 @@
 -- What a turn of each loop does, and what is left at its end.
-use mathlib.Core.Path.{◌≡◌, refl, ap, ◌∙◌}
+use mathlib.Core.Path.{◌≡◌, refl, sym, ap, ◌∙◌}
+use mathlib.Core.Bool.{Bool, true, false}
 use mathlib.Core.List.{List, [], ◌∷◌, ◌++◌, append-nil}
-use Prim.Native.Nat.{ℕ, suc, ◌+◌, ◌-◌, ◌/◌, ◌%◌, ◌≤◌, ◌<◌}
+use Prim.Native.Nat.{ℕ, suc, ◌+◌, ◌-◌, ◌/◌, ◌%◌, ◌≤◌, ◌<◌, min}
 use native.Mathlib.Numerals.{add-one}
 use native.Mathlib.Omega.{arith}
-use lib.ListN.{length, get_or, take, drop, length-drop, drop_of_length-le}
+use lib.Dec.{leb}
+use lib.ListN.{length, get_or, take, drop, set, length-drop, drop_of_length-le}
 use lib.Seq.{drop-cons, drop-drop}
+use borrow.Author.Tests.{leb-true, leb-false}
 use Rattle.parse.specs.Run.{span}
 use Rattle.parse.proofs.Runs.{span_le}
 use Rattle.put.specs.Put.{over, place_behind}
 use Rattle.hex_digits.specs.Hex.{hex_digit, hex_text}
 use Rattle.put.specs.Cr.{not_cr, without_cr}
 use Rattle.put.proofs.Crs.{without_piece}
-use Rattle.put.proofs.Laws.{over_nil, over_twice, Puts, puts_then}
+use Rattle.put.proofs.Laws.{over_nil, over_beyond, over_byte, over_twice, Puts, puts_then}
+
+-- ---- bytes
+
+module _ (d s : List ℕ) (at i : ℕ) where
+  pub copy_turn : i < length s → at + i < length d
+      → over (set d (at + i) (get_or s i 0)) (at + (i + 1)) (drop (i + 1) s) ≡ over d (at + i) (drop i s)
+  copy_turn h k =
+      ap (λ l. over l (at + (i + 1)) (drop (i + 1) s)) (over_byte d (at + i) (get_or s i 0) k)
+      ∙ over_twice d (at + i) (at + (i + 1)) (get_or s i 0 ∷ []) (drop (i + 1) s) (omega arith)
+      ∙ ap (over d (at + i)) (ap (λ n. get_or s i 0 ∷ drop n s) (add-one i) ∙ sym (drop-cons s i 0 h))
+
+  -- all is copied, or there is no more room
+  pub copy_end : min (length s) (length d - at) ≤ i → over d (at + i) (drop i s) ≡ d
+  copy_end h = go (leb (length s) i) refl
+    where
+      go : (t : Bool) → leb (length s) i ≡ t → over d (at + i) (drop i s) ≡ d
+      go true e = ap (over d (at + i)) (drop_of_length-le s (leb-true (length s) i e)) ∙ over_nil d (at + i)
+      go false e = over_beyond d (at + i) (drop i s) (omega (arith, leb-false (length s) i e))
 
 -- ---- hex: two digits for a byte, and what follows them makes the whole
 

@@ -8,21 +8,35 @@ ghost use Rattle.hex_digits.specs.Hex.{hex_text};
 ghost use Rattle.put.specs.Cr.{without_cr};
 ghost use Rattle.put.specs.Put.{over, place_behind};
 
+#[tactic(auto, using(crate::proofs::Laws::over_byte), unfolding(crate::specs::Put::place_behind))]
 pub fn byte(out: &mut [u8], at: usize, b: u8) -> usize
     ensures { (out.new ≡ over out.old at (b ∷ [])) × (result ≡ place_behind at 1) }
 {
-    bytes(out, at, &[b])
+    if at < out.len() {
+        out[at] = b;
+    }
+    at.saturating_add(1)
 }
 
 #[tactic(auto, unfolding(crate::specs::Put::place_behind))]
 pub fn bytes(out: &mut [u8], at: usize, src: &[u8]) -> usize
     ensures { (out.new ≡ over out.old at src.now) × (result ≡ place_behind at (length src.now)) }
 {
+    copy(out, at, src);
+    at.saturating_add(src.len())
+}
+
+// The loop tests nothing else, so that it compiles to a block copy in its place. The library's `copy_from_slice` would be a call of `memmove`,
+// which the archive for C would then need from outside.
+fn copy(out: &mut [u8], at: usize, src: &[u8])
+    ensures { out.new ≡ over out.old at src.now }
+{
     if at < out.len() {
         let n = src.len().min(out.len() - at);
-        out[at..at + n].copy_from_slice(&src[..n]);
+        for i in 0..n {
+            out[at + i] = src[i];
+        }
     }
-    at.saturating_add(src.len())
 }
 
 // Raw bytes as hex digits.
