@@ -66,7 +66,8 @@ pub fn next_on_line(
     Ok(next_with_digits(n, prefix, s, place, line))
 }
 
-// The same for ids of n digits.
+// The same for ids of n digits. Always inlined, too: where it was not, a listing took a third more time for each short line.
+#[inline(always)]
 pub fn next_with_digits(n: usize, prefix: &[u8], s: &[u8], place: usize, line: u64) -> Step
     ensures { result ≡ step_of paper n prefix.now s.now place line }
 {

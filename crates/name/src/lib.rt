@@ -91,19 +91,22 @@ fn is_dot_or_slash(b: u8) -> bool
 }
 
 // Whether a slash stands in a name. Most names begin with `refs/`. In blocks of sixteen, each byte once (docs/COST.md counts): the library's `contains`
-// looks at some up to three times.
+// looks at some up to three times. The loop's test says that sixteen are left, so that a block is vector code alone.
 fn has_slash(s: &[u8]) -> bool
     ensures { result ≡ true → contains slash s.now ≡ true }
 {
-    if 4 < s.len() && s[4] == b'/' {
+    let n = s.len();
+    if 4 < n && s[4] == b'/' {
         return true;
     }
-    for i in 0..s.len() / 16 {
-        if block::among16(s, 16 * i, b'/') {
+    let mut at = 0;
+    while 16 <= n - at {
+        if block::among16(s, at, b'/') {
             return true;
         }
+        at += 16;
     }
-    block::among16(s, s.len() / 16 * 16, b'/')
+    block::among16(s, at, b'/')
 }
 
 // The same byte by byte, by a table of byte classes.

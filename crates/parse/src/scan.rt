@@ -3,6 +3,8 @@ ghost use Rattle.std.specs.Prelude.{◌≡◌, ◌+◌, ◌≤◌, length, drop}
 ghost use Rattle.parse.specs.Run.{before, FirstStop};
 
 // The place of the first b from a place on, or the end; the place itself where that is beyond the end. Sixteen bytes a step where none of them is b.
+// Always inlined: of a short line the call would be a good part.
+#[inline(always)]
 pub fn next_byte(s: &[u8], at: usize, b: u8) -> usize
     ensures { result ≡ at + before b (drop at s.now) }
 {

@@ -7,7 +7,7 @@ use native.Mathlib.Omega.{arith}
 use native.Mathlib.Nat.{add-zero, le-suc_iff}
 use mathlib.Core.Logic.{inl, inr}
 use lib.Dec.{ltb, eqb}
-use lib.ListN.{get_or, length, take, drop, get_or-eq_default, length-reverse}
+use lib.ListN.{get_or, length, take, drop, length-drop, get_or-eq_default, length-reverse}
 use lib.Seq.{get_or-take, take-suc, take_all, length-take-le}
 use Rattle.block.specs.Among.{among}
 use Rattle.block.proofs.Members.{none_among}
@@ -153,12 +153,15 @@ module _ (s : List ℕ) where
   pub front_start : {i : ℕ} → i ≤ length s → line_start (take i s) (length (take i s)) ≡ line_start s i
   front_start {i} h = ap (line_start (take i s)) (length-take-le i s h) ∙ line_front s i i (omega arith)
 
-  pub chunk_start : {front : List ℕ} → front ≡ take (length s - 16) s → length front + 16 ≡ length s
-      → among 10 (take 16 (drop (length front) s)) ≡ false → line_start front (length front) ≡ line_start s (length s)
-  chunk_start {front} f l none =
-      let k = length front in
-      let over = line_skip s k 16 (λ j h. eqb-false _ _ (none_among 10 s k 16 j none h (omega arith))) in
-      ap (λ (r : List ℕ). line_start r (length r)) f ∙ front_start (omega arith) ∙ ap (line_start s) (omega arith) ∙ sym over ∙ ap (line_start s) l
+  pub chunk_start : {front sixteen : List ℕ} → front ≡ take (length s - 16) s → sixteen ≡ drop (length s - 16) s → length front + 16 ≡ length s
+      → among 10 sixteen ≡ false → line_start front (length front) ≡ line_start s (length s)
+  chunk_start {front} {sixteen} f e l none =
+      let k = length s - 16 in
+      let whole : k + 16 ≡ length s = omega arith in
+      let left : length (drop k s) ≤ 16 = omega (arith, length-drop k s) in
+      let clear : among 10 (take 16 (drop k s)) ≡ false = ap (among 10) (take_all 16 (drop k s) left ∙ sym e) ∙ none in
+      let over = line_skip s k 16 (λ j h. eqb-false _ _ (none_among 10 s k 16 j clear h (omega arith))) in
+      ap (λ (r : List ℕ). line_start r (length r)) f ∙ front_start (omega arith) ∙ sym over ∙ ap (line_start s) whole
 
 -- what std's search from the end tells: where the last LF stands, or that there is none
 module _ (s : List ℕ) {r : Option ℕ} (told : r ≡ cond (ltb (position_or_len feed (reverse s)) (length (reverse s))) (Some (position_or_len feed (reverse s))) None) where

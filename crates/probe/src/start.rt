@@ -68,8 +68,8 @@ fn last_start(s: &[u8]) -> usize
     ensures { result ≡ line_start s.now (length s.now) }
 {
     let mut rest = s;
-    while let Some((front, _)) = rest.split_last_chunk::<16>() {
-        if block::among16(rest, front.len(), b'\n') {
+    while let Some((front, sixteen)) = rest.split_last_chunk::<16>() {
+        if block::among(sixteen, b'\n') {
             break;
         }
         rest = front;

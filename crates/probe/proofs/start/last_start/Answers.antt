@@ -6,4 +6,4 @@ use Rattle.probe.proofs.start.last_start.Goals as goal
 pub loop-front-preserved : goal.loop-front-preserved
 loop-front-preserved c =
     let cases = c.in-Some.ensures.cases in
-    chunk_start c.loop-front.rest.now cases.0 cases.2 (sym c.among16.ensures ∙ c.if-among16.false) ∙ c.loop-front.invariant
+    chunk_start c.loop-front.rest.now cases.0 cases.1 cases.2 (sym c.among.ensures ∙ c.if-among.false) ∙ c.loop-front.invariant
