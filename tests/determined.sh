@@ -4,8 +4,8 @@ set -u
 cd "$(dirname "$0")/.." || exit 1
 
 # The public functions of the libraries, as crate::module::function, a method with its type before it. A file of src/ that is not lib.rt is a module. No crate can name what a static
-# library has, so host_c, which gives C what host has, is held to host below. A method that a type has from a trait is as public as the type, and listed under the name that the
-# toolchain makes of both: `from` of `impl From<BadHeader> for Refusal` as RefusalFromBadHeader::from.
+# library has, so host_c, which gives C what host has, is held to host below. A method that an `impl` here gives a type from a trait is as public as the type, and listed under the name that
+# the toolchain makes of both (what a derive writes, Clone, Copy and Default, is not listed): `from` of `impl From<BadHeader> for Refusal` as RefusalFromBadHeader::from.
 public=$(for f in crates/*/src/*.rt; do
     crate=${f#crates/}; crate=${crate%%/*}
     [ ! -e "crates/$crate/src/main.rt" ] || continue
