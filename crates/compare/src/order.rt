@@ -30,8 +30,15 @@ pub fn compare(a: &[u8], b: &[u8]) -> Ordering
     if p != q {
         return p.cmp(&q);
     }
-    // Alike as far as both go: the shorter one is the smaller.
-    m.cmp(&n)
+    // Alike as far as both go: the shorter one is the smaller. By two tests, and not by the lengths' `cmp`: a test that is wrong by one letter is refused
+    // for what it says then (must-fail/equal_strings_less.edit).
+    if m < n {
+        return Ordering::Less;
+    }
+    if n < m {
+        return Ordering::Greater;
+    }
+    Ordering::Equal
 }
 
 // Whether the first is the smaller one.

@@ -5,21 +5,23 @@ use mathlib.Core.List.{List}
 use Prim.Native.Nat.{ℕ, ◌+◌, ◌-◌, ◌≤◌, ◌<◌}
 use native.Mathlib.Omega.{arith}
 use borrow.Author.Count.{below_none}
-use lib.ListN.{get_or, length}
+use lib.ListN.{get_or, length, drop}
 use Rattle.std.specs.Ordering.{nat_cmp}
 use Rattle.word.specs.Number.{Bytes, number_at}
+use Rattle.compare.specs.Order.{order_of}
 use Rattle.compare.proofs.Below.{below_join}
-use Rattle.compare.proofs.ByNumber.{AlikeTo, order_by_numbers, order_by_lengths, eight_same}
+use Rattle.compare.proofs.ByNumber.{AlikeTo, order_behind, order_by_numbers, eight_same}
+use Rattle.compare.proofs.Orders.{both_end, first_ends, second_ends}
 use borrow.Author.Rules.{rules}
 use Rattle.compare.proofs.order.compare.Goals as goal
 
--- the last eight are the same: then the two are alike up to the end of the shorter one
-to_end : (a b : List ℕ) (i end : ℕ) → Bytes a → Bytes b → AlikeTo a b i → 8 ≤ end → end < i + 8 → end ≤ length a → end ≤ length b
-    → number_at a (end - 8) ≡ number_at b (end - 8) → AlikeTo a b end
-to_end a b i end p q alike long near h g e =
+-- the last eight are the same: then what is left decides, which is nothing of the shorter one
+rest : (a b : List ℕ) (i end : ℕ) → Bytes a → Bytes b → AlikeTo a b i → 8 ≤ end → end < i + 8 → end ≤ length a → end ≤ length b
+    → number_at a (end - 8) ≡ number_at b (end - 8) → order_of (drop end a) (drop end b) ≡ order_of a b
+rest a b i end p q alike long near h g e =
     let same = eight_same a b (end - 8) (omega arith) (omega arith) p q e in
     let all = below_join (λ k. get_or a k 0 ≡ get_or b k 0) i (end - 8) 8 (omega arith) alike same in
-    λ k l. all k (omega arith)
+    order_behind a b end h g (λ k l. all k (omega arith))
 
 pub returns-then-l-lt8 : goal.returns-then-l-lt8
 returns-then-l-lt8 c = c.by_one.ensures
@@ -57,6 +59,26 @@ returns-then-p-q c =
     ∙ order_by_numbers s.a.now s.b.now (end - 8) (omega arith) (omega arith) p q (λ k h. c.loop-i.invariant.1 k (omega arith))
     (λ e. c.if-p-q.true (c.number-p.ensures ∙ e ∙ sym c.number-q.ensures))
 
+pub returns-then-m-n : goal.returns-then-m-n
+returns-then-m-n c =
+    let s = c.args in
+    let end = c.min-l.result in
+    let p : Bytes s.a.now = λ k. omega (arith, c.type_inv.a k) in
+    let q : Bytes s.b.now = λ k. omega (arith, c.type_inv.b k) in
+    let same : number_at s.a.now (end - 8) ≡ number_at s.b.now (end - 8) = omega arith in
+    sym (first_ends s.a.now s.b.now end (omega arith) (omega arith))
+    ∙ rest s.a.now s.b.now c.loop-i.i end p q c.loop-i.invariant.1 (omega arith) (omega arith) (omega arith) (omega arith) same
+
+pub returns-then-n-m : goal.returns-then-n-m
+returns-then-n-m c =
+    let s = c.args in
+    let end = c.min-l.result in
+    let p : Bytes s.a.now = λ k. omega (arith, c.type_inv.a k) in
+    let q : Bytes s.b.now = λ k. omega (arith, c.type_inv.b k) in
+    let same : number_at s.a.now (end - 8) ≡ number_at s.b.now (end - 8) = omega arith in
+    sym (second_ends s.a.now s.b.now end (omega arith) (omega arith))
+    ∙ rest s.a.now s.b.now c.loop-i.i end p q c.loop-i.invariant.1 (omega arith) (omega arith) (omega arith) (omega arith) same
+
 pub returns : goal.returns
 returns c =
     let s = c.args in
@@ -64,6 +86,5 @@ returns c =
     let p : Bytes s.a.now = λ k. omega (arith, c.type_inv.a k) in
     let q : Bytes s.b.now = λ k. omega (arith, c.type_inv.b k) in
     let same : number_at s.a.now (end - 8) ≡ number_at s.b.now (end - 8) = omega arith in
-    c.cmp-2.ensures
-    ∙ order_by_lengths s.a.now s.b.now end (omega arith) (omega arith) (λ h g. omega (arith, h, g))
-    (to_end s.a.now s.b.now c.loop-i.i end p q c.loop-i.invariant.1 (omega arith) (omega arith) (omega arith) (omega arith) same)
+    sym (both_end s.a.now s.b.now end (omega arith) (omega arith))
+    ∙ rest s.a.now s.b.now c.loop-i.i end p q c.loop-i.invariant.1 (omega arith) (omega arith) (omega arith) (omega arith) same
