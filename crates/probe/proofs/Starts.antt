@@ -7,12 +7,12 @@ use native.Mathlib.Omega.{arith}
 use native.Mathlib.Nat.{add-zero, le-suc_iff}
 use mathlib.Core.Logic.{inl, inr}
 use lib.Dec.{ltb, eqb}
-use lib.ListN.{get_or, length, take, drop, length-drop, get_or-eq_default, length-reverse}
-use lib.Seq.{get_or-take, take-suc, take_all, length-take-le}
+use lib.ListN.{get_or, length, take, drop, get_or-eq_default, length-reverse}
+use lib.Seq.{get_or-take, take-take, take-suc, take_all, length-take-le}
 use Rattle.block.specs.Among.{among}
 use Rattle.block.proofs.Members.{none_among}
 use Rattle.std.specs.List.{position_or_len}
-use Rattle.std.proofs.lemmas.List.{reverse-append}
+use Rattle.std.proofs.lemmas.List.{reverse-append, drop-take}
 use Rattle.std.specs.declared.option.Option.{Option}
 use borrow.Author.Tests.{eq-eqb, ne_eqb, eqb-true, eqb-false, ltb-true, ltb-false}
 use Rattle.std.specs.declared.option.Option.TheVariants.{Some, None}
@@ -148,20 +148,21 @@ start_inside s place = go (eqb (get_or s (line_start s place) 0) 94) (eqb (line_
     go false true = omega arith
     go false false = line_inside s place
 
--- the first bytes as far as a place, and the bytes without the last sixteen, where no LF is among those
 module _ (s : List ℕ) where
+  -- the first bytes as far as a place
   pub front_start : {i : ℕ} → i ≤ length s → line_start (take i s) (length (take i s)) ≡ line_start s i
   front_start {i} h = ap (line_start (take i s)) (length-take-le i s h) ∙ line_front s i i (omega arith)
 
-  pub chunk_start : {front sixteen : List ℕ} → front ≡ take (length s - 16) s → sixteen ≡ drop (length s - 16) s → length front + 16 ≡ length s
-      → among 10 sixteen ≡ false → line_start front (length front) ≡ line_start s (length s)
-  chunk_start {front} {sixteen} f e l none =
-      let k = length s - 16 in
-      let whole : k + 16 ≡ length s = omega arith in
-      let left : length (drop k s) ≤ 16 = omega (arith, length-drop k s) in
-      let clear : among 10 (take 16 (drop k s)) ≡ false = ap (among 10) (take_all 16 (drop k s) left ∙ sym e) ∙ none in
-      let over = line_skip s k 16 (λ j h. eqb-false _ _ (none_among 10 s k 16 j clear h (omega arith))) in
-      ap (λ (r : List ℕ). line_start r (length r)) f ∙ front_start (omega arith) ∙ sym over ∙ ap (line_start s) whole
+  -- where they are split at k: both parts are bytes of the whole
+  pub front_split : {rest front back : List ℕ} (k : ℕ) → k ≤ length rest → rest ≡ take (length rest) s → front ≡ take k rest → back ≡ drop k rest
+      → (front ≡ take k s) × (back ≡ take (length rest - k) (drop k s))
+  front_split {rest} k h r f b =
+      let whole : length rest ≡ k + (length rest - k) = omega arith in
+      (f ∙ ap (take k) r ∙ take-take k (length rest) s h, b ∙ ap (drop k) (r ∙ ap (λ (n : ℕ). take n s) whole) ∙ drop-take k (length rest - k) s)
+
+  -- no LF among the n bytes from k on
+  pub line_over : (k n : ℕ) → k + n ≤ length s → among 10 (take n (drop k s)) ≡ false → line_start s k ≡ line_start s (k + n)
+  line_over k n h none = sym (line_skip s k n (λ j l. eqb-false _ _ (none_among 10 s k n j none l (omega arith))))
 
 -- what std's search from the end tells: where the last LF stands, or that there is none
 module _ (s : List ℕ) {r : Option ℕ} (told : r ≡ cond (ltb (position_or_len feed (reverse s)) (length (reverse s))) (Some (position_or_len feed (reverse s))) None) where

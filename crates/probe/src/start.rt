@@ -54,20 +54,14 @@ pub(crate) fn line_start(s: &[u8], place: usize) -> usize
         }
         i -= 8;
     }
-    last_start(&s[..i])
+    line_start_far(s, i)
 }
 
+// The same by sixteen bytes a step where there is no LF, then byte by byte.
 fn line_start_far(s: &[u8], place: usize) -> usize
     ensures { result ≡ line_start s.now place }
 {
-    last_start(&s[..place.min(s.len())])
-}
-
-// The start of the last line. Sixteen bytes a step where there is no LF, then byte by byte.
-fn last_start(s: &[u8]) -> usize
-    ensures { result ≡ line_start s.now (length s.now) }
-{
-    let mut rest = s;
+    let mut rest = &s[..place.min(s.len())];
     while let Some((front, sixteen)) = rest.split_last_chunk::<16>() {
         if block::among(sixteen, b'\n') {
             break;
@@ -77,7 +71,7 @@ fn last_start(s: &[u8]) -> usize
     by_one(rest)
 }
 
-// The same byte by byte.
+// The start of the last line, byte by byte.
 fn by_one(s: &[u8]) -> usize
     ensures { result ≡ line_start s.now (length s.now) }
 {

@@ -3,7 +3,7 @@ use mathlib.Core.Path.{◌≡◌, sym, ap, ◌∙◌}
 use Rattle.probe.specs.RecordStart.{line_start}
 use Prim.Native.Nat.{◌-◌}
 use native.Mathlib.Omega.{arith}
-use Rattle.probe.proofs.Starts.{line_stop, line_min, look_back, front_start}
+use Rattle.probe.proofs.Starts.{line_stop, line_min, look_back}
 use borrow.Author.Rules.{rules}
 use Rattle.probe.proofs.start.line_start.Goals as goal
 
@@ -27,4 +27,4 @@ loop-preserved c =
     (search rules, sym (rw whole at back) ∙ c.loop.invariant.1)
 
 pub returns : goal.returns
-returns c = c.last_start.ensures ∙ front_start c.args.s.now c.loop.invariant.0 ∙ c.loop.invariant.1
+returns c = c.line_start_far.ensures ∙ c.loop.invariant.1
