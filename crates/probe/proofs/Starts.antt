@@ -153,7 +153,7 @@ module _ (s : List ℕ) where
   pub front_start : {i : ℕ} → i ≤ length s → line_start (take i s) (length (take i s)) ≡ line_start s i
   front_start {i} h = ap (line_start (take i s)) (length-take-le i s h) ∙ line_front s i i (omega arith)
 
-  -- where they are split at k: both parts are bytes of the whole
+  -- the first bytes, split at k: both parts are bytes of the whole
   pub front_split : {rest front back : List ℕ} (k : ℕ) → k ≤ length rest → rest ≡ take (length rest) s → front ≡ take k rest → back ≡ drop k rest
       → (front ≡ take k s) × (back ≡ take (length rest - k) (drop k s))
   front_split {rest} k h r f b =
@@ -161,8 +161,8 @@ module _ (s : List ℕ) where
       (f ∙ ap (take k) r ∙ take-take k (length rest) s h, b ∙ ap (drop k) (r ∙ ap (λ (n : ℕ). take n s) whole) ∙ drop-take k (length rest - k) s)
 
   -- no LF among the n bytes from k on
-  pub line_over : (k n : ℕ) → k + n ≤ length s → among 10 (take n (drop k s)) ≡ false → line_start s k ≡ line_start s (k + n)
-  line_over k n h none = sym (line_skip s k n (λ j l. eqb-false _ _ (none_among 10 s k n j none l (omega arith))))
+  pub line_clear : (k n : ℕ) → k + n ≤ length s → among 10 (take n (drop k s)) ≡ false → line_start s k ≡ line_start s (k + n)
+  line_clear k n h none = sym (line_skip s k n (λ j l. eqb-false _ _ (none_among 10 s k n j none l (omega arith))))
 
 -- what std's search from the end tells: where the last LF stands, or that there is none
 module _ (s : List ℕ) {r : Option ℕ} (told : r ≡ cond (ltb (position_or_len feed (reverse s)) (length (reverse s))) (Some (position_or_len feed (reverse s))) None) where

@@ -7,6 +7,7 @@ use native.Mathlib.Omega.{arith}
 use borrow.Author.Count.{below_none}
 use lib.ListN.{get_or, length, drop}
 use Rattle.std.specs.Ordering.{nat_cmp}
+use Rattle.std.specs.declared.cmp.Ordering.{Ordering}
 use Rattle.word.specs.Number.{Bytes, number_at}
 use Rattle.compare.specs.Order.{order_of}
 use Rattle.compare.proofs.Below.{below_join}
@@ -15,13 +16,13 @@ use Rattle.compare.proofs.Orders.{both_end, first_ends, second_ends}
 use borrow.Author.Rules.{rules}
 use Rattle.compare.proofs.order.compare.Goals as goal
 
--- the last eight are the same: then what is left decides, which is nothing of the shorter one
-rest : (a b : List ℕ) (i end : ℕ) → Bytes a → Bytes b → AlikeTo a b i → 8 ≤ end → end < i + 8 → end ≤ length a → end ≤ length b
-    → number_at a (end - 8) ≡ number_at b (end - 8) → order_of (drop end a) (drop end b) ≡ order_of a b
-rest a b i end p q alike long near h g e =
+-- alike up to i, and the last eight that both have are the same: then what follows them decides, which is nothing of the shorter one
+end_tells : (a b : List ℕ) (i end : ℕ) {o : Ordering} → Bytes a → Bytes b → AlikeTo a b i → 8 ≤ end → end < i + 8 → end ≤ length a → end ≤ length b
+    → number_at a (end - 8) ≡ number_at b (end - 8) → order_of (drop end a) (drop end b) ≡ o → o ≡ order_of a b
+end_tells a b i end p q alike long near h g e told =
     let same = eight_same a b (end - 8) (omega arith) (omega arith) p q e in
     let all = below_join (λ k. get_or a k 0 ≡ get_or b k 0) i (end - 8) 8 (omega arith) alike same in
-    order_behind a b end h g (λ k l. all k (omega arith))
+    sym told ∙ order_behind a b end h g (λ k l. all k (omega arith))
 
 pub returns-then-l-lt8 : goal.returns-then-l-lt8
 returns-then-l-lt8 c = c.by_one.ensures
@@ -63,28 +64,19 @@ pub returns-then-m-n : goal.returns-then-m-n
 returns-then-m-n c =
     let s = c.args in
     let end = c.min-l.result in
-    let p : Bytes s.a.now = λ k. omega (arith, c.type_inv.a k) in
-    let q : Bytes s.b.now = λ k. omega (arith, c.type_inv.b k) in
-    let same : number_at s.a.now (end - 8) ≡ number_at s.b.now (end - 8) = omega arith in
-    sym (first_ends s.a.now s.b.now end (omega arith) (omega arith))
-    ∙ rest s.a.now s.b.now c.loop-i.i end p q c.loop-i.invariant.1 (omega arith) (omega arith) (omega arith) (omega arith) same
+    end_tells s.a.now s.b.now c.loop-i.i end (λ k. omega (arith, c.type_inv.a k)) (λ k. omega (arith, c.type_inv.b k)) c.loop-i.invariant.1 (omega arith) (omega arith)
+    (omega arith) (omega arith) (omega arith) (first_ends s.a.now s.b.now end (omega arith) (omega arith))
 
 pub returns-then-n-m : goal.returns-then-n-m
 returns-then-n-m c =
     let s = c.args in
     let end = c.min-l.result in
-    let p : Bytes s.a.now = λ k. omega (arith, c.type_inv.a k) in
-    let q : Bytes s.b.now = λ k. omega (arith, c.type_inv.b k) in
-    let same : number_at s.a.now (end - 8) ≡ number_at s.b.now (end - 8) = omega arith in
-    sym (second_ends s.a.now s.b.now end (omega arith) (omega arith))
-    ∙ rest s.a.now s.b.now c.loop-i.i end p q c.loop-i.invariant.1 (omega arith) (omega arith) (omega arith) (omega arith) same
+    end_tells s.a.now s.b.now c.loop-i.i end (λ k. omega (arith, c.type_inv.a k)) (λ k. omega (arith, c.type_inv.b k)) c.loop-i.invariant.1 (omega arith) (omega arith)
+    (omega arith) (omega arith) (omega arith) (second_ends s.a.now s.b.now end (omega arith) (omega arith))
 
 pub returns : goal.returns
 returns c =
     let s = c.args in
     let end = c.min-l.result in
-    let p : Bytes s.a.now = λ k. omega (arith, c.type_inv.a k) in
-    let q : Bytes s.b.now = λ k. omega (arith, c.type_inv.b k) in
-    let same : number_at s.a.now (end - 8) ≡ number_at s.b.now (end - 8) = omega arith in
-    sym (both_end s.a.now s.b.now end (omega arith) (omega arith))
-    ∙ rest s.a.now s.b.now c.loop-i.i end p q c.loop-i.invariant.1 (omega arith) (omega arith) (omega arith) (omega arith) same
+    end_tells s.a.now s.b.now c.loop-i.i end (λ k. omega (arith, c.type_inv.a k)) (λ k. omega (arith, c.type_inv.b k)) c.loop-i.invariant.1 (omega arith) (omega arith)
+    (omega arith) (omega arith) (omega arith) (both_end s.a.now s.b.now end (omega arith) (omega arith))

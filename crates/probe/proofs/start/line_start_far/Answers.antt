@@ -3,7 +3,7 @@ use Rattle.std.proofs.Common.{◌≡◌, ◌+◌, ◌-◌, arith, sym, ap, ◌�
 use lib.Seq.{length-take-le}
 use Rattle.block.specs.Among.{among}
 use Rattle.probe.specs.RecordStart.{line_start}
-use Rattle.probe.proofs.Starts.{line_min, line_over, front_start, front_split}
+use Rattle.probe.proofs.Starts.{line_min, line_clear, front_start, front_split}
 use Rattle.probe.proofs.start.line_start_far.Goals as goal
 
 pub loop-front-init : goal.loop-front-init
@@ -24,7 +24,7 @@ loop-front-preserved c =
     let whole : k + (n - k) ≡ n = omega arith in
     let (front, sixteen) = front_split s k (omega arith) inv.1 cases.0 cases.1 in
     let none : among 10 (take (n - k) (drop k s)) ≡ false = grind (arith, sixteen, c.among.ensures, c.if-among.false) in
-    let over = line_over s k (n - k) (omega (arith, inv.0)) none in
+    let over = line_clear s k (n - k) (omega (arith, inv.0)) none in
     (omega (arith, short, inv.0), front ∙ ap (λ (m : ℕ). take m s) (sym short), ap (line_start s) short ∙ over ∙ ap (line_start s) whole ∙ inv.2)
 
 pub returns : goal.returns
